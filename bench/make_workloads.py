@@ -101,6 +101,10 @@ class Workload:
                 rows.append((source, destination, message_class, length, random.below(self.span)))
         return rows
 
+    def with_channels(self, channels: int | None) -> "Workload":
+        """The same with so many virtual channels, where a number is named."""
+        return replace(self, network=replace(self.network, channels=channels)) if channels else self
+
     def config(self, cycles: int | None = None) -> str:
         """The configuration's text, by default with the workload's own number of cycles."""
         return replace(self.network, cycles=cycles or self.network.cycles).text()
@@ -145,6 +149,11 @@ def workloads() -> list[Workload]:
             "h_torus16", Network("torus", (16, 16), 4, 4, 2, "dateline", 20000), 10, [16, 64], 15600, uniform(256)
         ),
     ]
+
+
+def chosen(only: Sequence[str] | None, channels: int | None) -> list[Workload]:
+    """The workloads of these names, or all where none is named, as `with_channels` has them."""
+    return [load.with_channels(channels) for load in workloads() if not only or load.name in only]
 
 
 def large_workloads() -> list[Workload]:

@@ -25,12 +25,11 @@ import subprocess
 import sys
 import tempfile
 from collections.abc import Callable, Sequence
-from dataclasses import replace
 from pathlib import Path
 from statistics import median, quantiles
 
 sys.dont_write_bytecode = True
-from make_workloads import Workload, texts_in, workloads  # noqa: E402
+from make_workloads import Workload, chosen, texts_in  # noqa: E402
 
 Clock = Callable[[], float]
 
@@ -181,11 +180,7 @@ def main() -> int:
     print("|---|" + "--:|" * (len(heads) - 1))
     well = True
     with tempfile.TemporaryDirectory(prefix="noc-bench-") as folder:
-        for load in workloads():
-            if options.only and load.name not in options.only:
-                continue
-            if options.channels:
-                load.network = replace(load.network, channels=options.channels)
+        for load in chosen(options.only, options.channels):
             measured = measure(load, sides, options.repeat, Path(folder))
             cells = [load.name, str(load.network.nodes), str(load.network.cycles), *figures_of(measured, len(sides))]
             print("|", " | ".join(cells), "|", flush=True)

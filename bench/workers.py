@@ -21,7 +21,6 @@ import tempfile
 import time
 from collections.abc import Iterator
 from contextlib import contextmanager
-from dataclasses import replace
 from pathlib import Path
 from statistics import median
 
@@ -67,9 +66,7 @@ def table(options: argparse.Namespace, folder: Path) -> bool:
     print("|", " | ".join(heads), "|")
     print("|---|" + "--:|" * (len(heads) - 1))
     well = True
-    for load in (LOADS[name] for name in options.only):
-        if options.channels:
-            load = replace(load, network=replace(load.network, channels=options.channels))
+    for load in (LOADS[name].with_channels(options.channels) for name in options.only):
         sides = [Workers(options.program, workers) for workers in options.workers]
         measured = measure(load, sides, options.repeat, folder)
         gains = [median(measured.ratios(side, 0)) for side in range(1, len(sides))]

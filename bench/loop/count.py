@@ -24,12 +24,11 @@ import subprocess
 import sys
 import tempfile
 from collections import Counter, defaultdict
-from dataclasses import replace
 from pathlib import Path
 
 sys.dont_write_bytecode = True
 sys.path.append(str(Path(__file__).resolve().parent.parent))
-from make_workloads import Workload, texts_in, workloads  # noqa: E402
+from make_workloads import Workload, chosen, texts_in  # noqa: E402
 from measure import ENDED_WELL  # noqa: E402
 
 # Where an instruction is from: the function, the file and the line.
@@ -125,11 +124,7 @@ def main() -> None:
         sys.exit("count: valgrind is not on the PATH")
     columns: list[tuple[str, dict[Place, float]]] = []
     with tempfile.TemporaryDirectory(prefix="noc-bench-") as folder:
-        for load in workloads():
-            if asked.only and load.name not in asked.only:
-                continue
-            if asked.channels:
-                load.network = replace(load.network, channels=asked.channels)
+        for load in chosen(asked.only, asked.channels):
             for head, program in ((load.name, asked.program), ("the other", asked.against)):
                 if program:
                     columns.append((head, costs_of(program, load, asked.cycles, Path(folder))))

@@ -4,11 +4,12 @@
     run_names.py PAGE..
 
 Each link of a page to a file of the repository must lead to one, and to a heading of it where it names one. Each path
-'crates/..', 'docs/..', 'tests/..', 'bench/..' and so on in the text must be there. Below a heading that is the name of
-a crate, each item of a list must end with names in brackets, all of which the crate hands out. The pages
-docs/DEFINITIONS.md and docs/INTERFACE.md must be what definitions.py and interface.py print, which stand beside this
-file, crates/noc_net/src/lib.rt must quote the use of the libraries as it stands, and bench/figures.svg be the picture
-of bench/figures.csv.
+'crates/..', 'docs/..', 'tests/..', 'bench/..' and so on in the text must be there. A path 'noc_x/src/..' must be in
+that crate, and a path 'src/..', 'specs/..' or 'proofs/..' in some crate. Below a heading that is the name of a crate,
+each item of a list must end with names in brackets. The crate must hand out these, and the functions that stand in
+brackets before. The pages docs/DEFINITIONS.md and docs/INTERFACE.md must be what definitions.py and interface.py print,
+which stand beside this file. crates/noc_net/src/lib.rt must quote the use of the libraries as it stands, and
+bench/figures.svg be the picture of bench/figures.csv.
 
 In a table whose head names modules, each must be a file of the crate or package that the table is of, and each file of
 it must be named in such a table of the page. `Type::name` must be a member of a type or trait of that name, and
@@ -20,7 +21,7 @@ No sentence has more than 35 words (bench/prose.py).
 Each crate of crates.txt has one row in crates/README.md, which comes after the rows of all crates that it stands on.
 
 The edits that must fail are counted, and so are the crates that have some, which docs/DEVELOPING.md must name. Each
-text that an edit replaces must stand in its file once.
+text that an edit replaces must stand in its file once, and it must be of crates on which its own stands.
 
 Each name that leads nowhere is shown, and the last line is 'N passed, M failed'. The exit status is 0 where there are
 names and all are there, else 1.
@@ -45,12 +46,20 @@ LINK = re.compile(r"\]\((?!https?:)([^)#]*)(?:#([^)]*))?\)")
 HEADING = re.compile(r"^#+ (.*)$", re.MULTILINE)
 FENCED = re.compile(r"^```.*?^```", re.MULTILINE | re.DOTALL)
 PATH = re.compile(r"`((?:crates|docs|tests|bench|builder|release|examples|noc_tools)/[\w./*-]+)`")
+# A file of a crate that is named by its folder there alone, or by the crate without `crates/`.
+CRATE_PATH = re.compile(r"`(?:(noc_\w+)/)?((?:src|specs|proofs|must-fail)/[\w./*-]+)`")
+# A step of such a path that stands for any name.
+ANY_STEP = re.compile(r"\b[A-Z]+\b")
 STATEMENT = re.compile(r"^- .*(?:\n  .*)*", re.MULTILINE)
 CARRIED = re.compile(r"\((`[^`]+`(?:,\s+`[^`]+`)*)\)\.$")
+# Names in brackets within such an item. A type, a definition or a file there carries nothing.
+CARRIERS = re.compile(r"\((`[^`]+`(?:,\s+`[^`]+`)*)\)")
+NO_CARRIER = re.compile(r"[A-Z]\w*|.*/.*")
 CODE = re.compile(r"`([^`]+)`")
 # A row of crates/README.md, and a line of crates.txt.
 CRATE_ROW = re.compile(r"^\| `(\w+)` \|", re.MULTILINE)
 CRATE_LINE = re.compile(r"^(\w+):(.*)$", re.MULTILINE)
+OF_CRATE = re.compile(r"\b(noc_\w+)(?=::|\.)")
 EDITS_SECTION = re.compile(r"^## Edits that must fail\n(.*?)(?=^## |\Z)", re.MULTILINE | re.DOTALL)
 
 
@@ -68,6 +77,9 @@ def links(page: Path) -> Iterator[tuple[str, bool]]:
         yield f"link {file}#{heading}", target.exists() and (not heading or heading in anchors(target))
     for path in PATH.findall(text):
         yield f"path {path}", any(TOP.glob(path.rstrip("/")))
+    for crate, path in CRATE_PATH.findall(text):
+        where = f"crates/{crate or '*'}/{ANY_STEP.sub('*', path.rstrip('/'))}"
+        yield f"path {where}", any(TOP.glob(where))
 
 
 def has_public(crate: str, name: str) -> bool:
@@ -90,7 +102,9 @@ def contracts(page: Path) -> Iterator[tuple[str, bool]]:
             if carried is None:
                 yield f"what carries '{statement[2:60]}..'", False
                 continue
-            for name in CODE.findall(carried[1]):
+            inside = [name for names in CARRIERS.findall(statement[:carried.start()]) for name in CODE.findall(names)
+                      if not NO_CARRIER.fullmatch(name)]
+            for name in [*inside, *CODE.findall(carried[1])]:
                 yield f"{heading}'s {name}", has_public(heading, name)
 
 
@@ -154,9 +168,16 @@ def replaces_what_is_there(edit: Path) -> bool:
     return True
 
 
+def is_of_crates_below(edit: Path, crates: dict[str, list[str]]) -> bool:
+    """Whether all crates of which an edit has something are its own and those on which that one stands."""
+    own = edit.parents[1].name
+    return set(OF_CRATE.findall(edit.read_text())) <= {own, *crates.get(own, [])}
+
+
 def edits() -> Iterator[tuple[str | Path, str, bool]]:
     """Whether the edits that must fail are few, in few crates that a page names, and each of what is there."""
     all_edits, crates = told_numbers.edits(), told_numbers.crates_with_edits()
+    stands_on = told_numbers.lines_of_crates()
     for what, count, most in (("edits", len(all_edits), MOST_EDITS), ("crates with edits", len(crates), MOST_CRATES)):
         yield "crates", f"room for {count} {what}, of {most} at most,", 0 < count <= most
     section = EDITS_SECTION.search((TOP / "docs/DEVELOPING.md").read_text())
@@ -165,6 +186,7 @@ def edits() -> Iterator[tuple[str | Path, str, bool]]:
         yield "docs/DEVELOPING.md", f"{crate} as a crate with edits", crate in named
     for edit in all_edits:
         yield edit.relative_to(TOP), "one place for each text that it replaces", replaces_what_is_there(edit)
+        yield edit.relative_to(TOP), "crates that its own stands on", is_of_crates_below(edit, stands_on)
 
 
 def main() -> int:

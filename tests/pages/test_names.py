@@ -49,11 +49,39 @@ class Names(unittest.TestCase):
         page = self.page(f"`Verdict`, `take_beats`, `verdict_of` and `{nowhere}`")
         self.assertEqual(wrong(told_names.names(page)), [f"the name {nowhere}"])
 
+    def test_a_path_leads_to_a_file_of_a_crate(self) -> None:
+        right = "`src/network.rt`, `noc_net/src/network.rt`, `proofs/MODULE/FUNCTION/Answers.antt`, `must-fail/*.edit`"
+        self.assertEqual(wrong(run_names.links(self.page(right))), [])
+        for path, where in (("src/nowhere.rt", "*/src/nowhere.rt"), ("noc_vc/src/network.rt", "noc_vc/src/network.rt")):
+            self.assertEqual(wrong(run_names.links(self.page(f"`{path}`"))), [f"path crates/{where}"])
+
+    def test_what_carries_a_statement_is_handed_out(self) -> None:
+        text = "### `noc_columns`\n\n- One thing is so ({}). And another, of words (`Words`), too (`route`).\n"
+        self.assertEqual(wrong(run_names.contracts(self.page(text.format("`allocate`")))), [])
+        # (the first is of the crate alone)
+        for name in ("grant_all", "Words::nothing"):
+            page = self.page(text.format(f"`route`, `{name}`"))
+            self.assertEqual(wrong(run_names.contracts(page)), [f"noc_columns's {name}"])
+
     def test_a_table_names_all_modules_and_no_others(self) -> None:
         page = self.page("| Module of `noc_waiting` | What |\n|---|---|\n| `none` | it |\n")
         self.assertEqual(wrong(told_names.modules(page)), ["the module none of noc_waiting"])
         page = self.page("| Module of `noc_vc` | What |\n|---|---|\n| `input` | it |\n")
         self.assertIn("the module output of noc_vc, in a table,", wrong(told_names.modules(page)))
+
+    def test_an_edit_is_of_crates_on_which_its_own_stands(self) -> None:
+        room = tempfile.TemporaryDirectory()
+        self.addCleanup(room.cleanup)
+        edit = Path(room.name) / "noc_high/must-fail/wrong.edit"
+        edit.parent.mkdir(parents=True)
+        stands_on: dict[str, list[str]] = {
+            "noc_low": [], "noc_other": [], "noc_high": ["noc_low", "rtrb"]}
+        for text, is_right in (
+            ("noc_low::Kind::One", True), ("noc_high::Kind::One", True), ("Kind::One", True),
+            ("noc_other::Kind::One", False), ("Rattle.noc_other.specs.Kinds.{Kind}", False),
+        ):
+            edit.write_text(f"file: src/lib.rt\nold: Kind::Two\nnew: {text}\n")
+            self.assertEqual(run_names.is_of_crates_below(edit, stands_on), is_right)
 
     def test_each_crate_stands_once_behind_those_below_it(self) -> None:
         right = row("noc_low") + row("noc_high")

@@ -1,6 +1,5 @@
 pub mod WordLemmas
 pub mod ArbiterLemmas
-pub mod AskingLemmas
 pub mod SwitchLemmas
 pub mod OfferLemmas
 pub mod RequestLemmas

@@ -4,7 +4,7 @@ use Rattle.std.specs.Prelude.{◌⊎◌, ◌||◌, nat_le, nat_lt, is_some, opti
 use Rattle.std.proofs.lemmas.Bool.{cases_eq, leb-true, leb-false, ltb-true, ltb-false}
 use Rattle.std.proofs.lemmas.List.{get_or_read, length-set}
 use Rattle.noc_topo.specs.Lists.{is_some_of, tabulate}
-use Rattle.noc_alloc.specs.Arbiter.{RoundRobin, arbiter_at, first_in_turn, nearer, pointers_of}
+use Rattle.noc_alloc.specs.Arbiter.{RoundRobin, arbiter_at, first_in_turn, earlier, pointers_of}
 use Rattle.noc_alloc.specs.Allocation.{pick_of, picked_port, winner_of}
 use Rattle.noc_alloc.specs.Steps.{firsts_after_request}
 use Rattle.noc_alloc.proofs.WordLemmas.{is_some_of-some, is_some_of-none, is_some_of-other}
@@ -13,7 +13,7 @@ use Rattle.noc_alloc.proofs.ArbiterLemmas.{IsNearest, first_in_turn-same, neares
 use Rattle.noc_alloc.proofs.SwitchLemmas.{pointer-at}
 
 -- the later one asks
-nearest-asks : (n p k : ℕ) (asks : ℕ → Bool) (r : Option ℕ) → k < n → asks k ≡ true → IsNearest n p asks k r → IsNearest n p asks (k + 1) (Some (nearer p r k))
+pub nearest-asks : (n p k : ℕ) (asks : ℕ → Bool) (r : Option ℕ) → k < n → asks k ≡ true → IsNearest n p asks k r → IsNearest n p asks (k + 1) (Some (earlier p r k))
 nearest-asks n p k asks None u e h = nearest-one n p k asks e h
 nearest-asks n p k asks (Some x) u e h = at (nat_le p x) (nat_lt k p) refl refl
   where
@@ -38,7 +38,7 @@ nearest-offered n k arbiters asks held None e u same h o l =
 nearest-offered n k arbiters asks held (Some out) e u same h o l = at (cases_eq o out)
   where
     first : Option ℕ
-    first = Some (nearer (arbiter_at arbiters out).pointer (get_or held out None) k)
+    first = Some (earlier (arbiter_at arbiters out).pointer (get_or held out None) k)
 
     at : (o ≡ out) ⊎ (o ≡ out → ⊥) → IsNearest n (get_or (pointers_of arbiters) o 0) (λ i. is_some_of (asks i) o) (k + 1) (get_or (set held out first) o None)
     at (inl is) =
@@ -46,7 +46,7 @@ nearest-offered n k arbiters asks held (Some out) e u same h o l = at (cases_eq 
         subst (λ x. IsNearest n (get_or (pointers_of arbiters) x 0) (λ i. is_some_of (asks i) x) (k + 1) (get_or (set held out first) x None)) (sym is)
         (subst (IsNearest n (get_or (pointers_of arbiters) out 0) (λ i. is_some_of (asks i) out) (k + 1))
         (sym (get_or-set_same held out first None (omega arith)))
-        (subst (λ q. IsNearest n (get_or (pointers_of arbiters) out 0) (λ i. is_some_of (asks i) out) (k + 1) (Some (nearer q (get_or held out None) k))) (pointer-at arbiters out inside)
+        (subst (λ q. IsNearest n (get_or (pointers_of arbiters) out 0) (λ i. is_some_of (asks i) out) (k + 1) (Some (earlier q (get_or held out None) k))) (pointer-at arbiters out inside)
         (nearest-asks n (get_or (pointers_of arbiters) out 0) k (λ i. is_some_of (asks i) out) (get_or held out None) u (is_some_of-some (asks k) out e) (h out inside))))
     at (inr other) =
         subst (IsNearest n (get_or (pointers_of arbiters) o 0) (λ i. is_some_of (asks i) o) (k + 1)) (sym (get_or-set_other held out o first None other))
@@ -54,7 +54,7 @@ nearest-offered n k arbiters asks held (Some out) e u same h o l = at (cases_eq 
 
 pub length-firsts : (arbiters : List RoundRobin) (ask : Option ℕ) (k : ℕ) (held : List (Option ℕ)) → length (firsts_after_request arbiters ask k held) ≡ length held
 length-firsts arbiters None k held = refl
-length-firsts arbiters (Some o) k held = length-set held o (Some (nearer (arbiter_at arbiters o).pointer (get_or held o None) k))
+length-firsts arbiters (Some o) k held = length-set held o (Some (earlier (arbiter_at arbiters o).pointer (get_or held o None) k))
 
 -- all have been offered
 pub nearest-all : (n : ℕ) (arbiters : List RoundRobin) (asks : ℕ → Option ℕ) (held : List (Option ℕ)) → length held ≡ length arbiters → AllNearest n arbiters asks n held

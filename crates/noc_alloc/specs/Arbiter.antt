@@ -17,9 +17,9 @@ first_in_turn size pointer asks =
     least_by (distance_in_turn size pointer) (filter asks (below size))
 
 -- of the one that came first so far, if any, and a later number, the one that comes first
-abbrev pub nearer : ℕ → Option ℕ → ℕ → ℕ
-nearer pointer None next = next
-nearer pointer (Some held) next = if nat_le pointer held || nat_lt next pointer then held else next
+abbrev pub earlier : ℕ → Option ℕ → ℕ → ℕ
+earlier pointer None next = next
+earlier pointer (Some held) next = if nat_le pointer held || nat_lt next pointer then held else next
 
 -- a pointer goes to one past the winner, modulo the size, and stays where there is no winner
 abbrev pub pointer_after : ℕ → ℕ → Option ℕ → ℕ

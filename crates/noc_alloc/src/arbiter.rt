@@ -2,7 +2,7 @@
 
 ghost use Rattle.std.specs.Prelude.{◌≡◌, ℕ, ◌<◌, ◌≤◌, true, IfSome};
 ghost use Rattle.noc_packet.specs.Set.{has_bit};
-ghost use Rattle.noc_alloc.specs.Arbiter.{first_in_turn, nearer, arbiter_after};
+ghost use Rattle.noc_alloc.specs.Arbiter.{first_in_turn, earlier, arbiter_after};
 
 use noc_packet::{ChannelSet, INDICES};
 use std::marker::Model;
@@ -70,8 +70,8 @@ impl Arbiter {
 
     /// The one that comes first of two: the first so far, if there is one, and a requester with a
     /// higher number. So requesters that are looked at by rising number leave the first of all.
-    pub fn nearer(&self, held: Option<usize>, next: usize) -> usize
-        ensures { result ≡ nearer self.now.pointer held next }
+    pub fn earlier(&self, held: Option<usize>, next: usize) -> usize
+        ensures { result ≡ earlier self.now.pointer held next }
     {
         let pointer = self.pointer();
         match held {

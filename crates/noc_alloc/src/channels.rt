@@ -37,7 +37,7 @@ pub(crate) fn offer(
 {
     if let Some(asked) = asked {
         if asked < arbiters.len() {
-            held[asked] = Some(arbiters[asked].nearer(held[asked], requester));
+            held[asked] = Some(arbiters[asked].earlier(held[asked], requester));
         }
     }
 }

@@ -9,7 +9,6 @@ ghost use Rattle.noc_alloc.specs.Switch.{AreChoices, AreOfSwitch};
 
 use crate::arbiter::Arbiter;
 use crate::channels::offer;
-use noc_packet::ChannelSet;
 
 /// For each input channel that is ready, `ready` has the output port of its output channel; input
 /// port `port` has the input channels from `port * vcs` on. Each input port picks one of its
@@ -54,13 +53,13 @@ fn first_of_those_ready(ready: &[Option<usize>], first: usize, arbiter: &Arbiter
     ensures first { result ≡ first_in_turn arbiter.now.size arbiter.now.pointer
         (λ v. is_some (slice_index_or ready.now (first + v) None)) }
 {
-    let mut asking = ChannelSet::empty();
+    let mut held = None;
     for vc in 0..arbiter.size() {
         if ready[first + vc].is_some() {
-            asking = asking.with(vc);
+            held = Some(arbiter.earlier(held, vc));
         }
     }
-    arbiter.pick(asking)
+    held
 }
 
 /// Moves the pointers past the winners: those of the output ports that were won, and those of the

@@ -1,20 +1,15 @@
 -- What a command checks and runs, and which fault of its texts comes first.
-use Rattle.std.proofs.Common.{◌≡◌, ℕ, Bool, true, Option, Some, None, refl, sym, subst, ◌∙◌}
-use Rattle.std.specs.Option.{IsSomeAnd}
+use Rattle.std.proofs.Common.{◌≡◌, ℕ, Bool, true, Some, refl, sym, subst, ◌∙◌}
 use Rattle.std.proofs.lemmas.Bool.{false≢true}
 use Rattle.noc_files.specs.Configuration.{Settings}
 use Rattle.noc_theory.specs.Network.{Run, Setup}
-use Rattle.noc_route.specs.Routes.{Routes}
-use Rattle.noc_requests.specs.Asked.{Asked, TextValue, ReadsAs, as_files, as_joined, is_joined}
-use Rattle.noc_requests.specs.Settings.{AsksForRelation}
-use Rattle.noc_faults.specs.declared.fault.Fault.{Fault}
+use Rattle.noc_requests.specs.Asked.{Asked, ReadsAs, as_files, as_joined, is_joined}
 use Rattle.noc_commands.specs.declared.command.Command.{Command}
 use Rattle.noc_commands.specs.declared.command.Command.TheVariants as command
 use Rattle.noc_commands.specs.declared.report.Report.{Report}
 use Rattle.noc_requests.specs.declared.request.Request.{Request}
-use Rattle.noc_requests.specs.Answer.{TextsFault, in_ranks, runs}
+use Rattle.noc_requests.specs.Answer.{runs}
 use Rattle.noc_requests.specs.Drain.{RunsTo}
-use Rattle.noc_requests.specs.Check.{RanksFault, checked_ranks}
 use Rattle.noc_requests.specs.Run.{AsksForRun, Opens, cycles_asked, runs_until_out, report_of}
 use Rattle.noc_commands.specs.Workers.{workers_of}
 use Rattle.noc_answers.proofs.DrainLemmas.{ends-some}

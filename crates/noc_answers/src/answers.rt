@@ -76,11 +76,9 @@ fn read_request(request: &Request) -> Result<Files<'_>, Fault>
     let Command::Joined = request.command else {
         return Ok(files_of(request));
     };
-    let text = match &request.config {
-        Ok(text) => text.as_slice(),
-        Err(fault) => return Err(Fault::Joined(*fault)),
-    };
-    match split_joined(text) {
+    let config = request.config.as_ref();
+    let text = config.map_err(|fault| Fault::Joined(*fault))?;
+    match split_joined(text.as_slice()) {
         Some((config, traffic)) => Ok(Files {
             config: Ok(config),
             table: None,

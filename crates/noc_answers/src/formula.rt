@@ -24,10 +24,8 @@ pub(crate) fn answer_ranks<W: Sink>(
     let Some(rule) = config.rule.rule() else {
         return Err(Fault::Rank(RankFault::NoGenerated, *shape));
     };
-    let ranks = match Ranks::generated(alloc, shape, config.channels, config.classes, &rule) {
-        Ok(ranks) => ranks,
-        Err(fault) => return Err(Fault::Rank(fault, *shape)),
-    };
+    let generated = Ranks::generated(alloc, shape, config.channels, config.classes, &rule);
+    let ranks = generated.map_err(|fault| Fault::Rank(fault, *shape))?;
     ended(
         write_ranks(&ranks, shape, config.channels, sink),
         Status::Done,

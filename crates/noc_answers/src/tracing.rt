@@ -57,8 +57,5 @@ fn trace_for(
     if let Some(fault) = packet_fault(files.command, network.packets()) {
         return Err(Fault::Option(fault));
     }
-    match Trace::new(alloc, network, traced) {
-        Ok(trace) => Ok(trace),
-        Err(_) => Err(Fault::Network(NetFault::Memory)),
-    }
+    Trace::new(alloc, network, traced).map_err(|_| Fault::Network(NetFault::Memory))
 }

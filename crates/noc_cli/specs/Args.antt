@@ -42,11 +42,15 @@ SaysNoWorkers found =
     IsSaidIfAny (one_text found (codes "workers")) None
     ⊎ ((n : ℕ) × SaysWorkers found n × ((n < 1) ⊎ (MAX_WORKERS < n)))
 
--- the report that an argument names, and the latency report where it names none
+-- the report that an argument names, and the latency report where there is no argument
 abbrev pub IsReport : Option Text → Report → Type 0
 IsReport arg report =
-    (arg ≡ Some (name_of report))
-    ⊎ (All (λ other. arg ≢ Some other) report_names × (report ≡ Latency))
+    (arg ≡ Some (name_of report)) ⊎ ((arg ≡ None) × (report ≡ Latency))
+
+-- there is an argument, and it names no report
+abbrev pub IsNoReport : Option Text → Type 0
+IsNoReport None = ⊥
+IsNoReport (Some text) = All (λ other. text ≢ other) report_names
 
 -- the verdicts that an argument names, and none where there is no argument
 abbrev pub AreVerdicts : Option Text → Option VerdictSet → Type 0
@@ -85,10 +89,12 @@ IsCommand found name (Trace from to router packet verdicts changes) =
 IsCommand found name Check = name ≡ codes "check"
 IsCommand found name Ranks = name ≡ codes "ranks"
 
--- no command has the name, or it is `run` with no number of workers from 1 to MAX_WORKERS, or
--- `explain` without a cycle or a router, or `trace` with what names no verdicts
+-- no command has the name, or it is `run` with no number of workers from 1 to MAX_WORKERS or with
+-- what names no report, or `explain` without a cycle or a router, or `trace` with what names no
+-- verdicts
 abbrev pub IsNoCommand : Found → Text → Type 0
-IsNoCommand found name = ((name ≡ codes "run") × SaysNoWorkers found)
+IsNoCommand found name = ((name ≡ codes "run")
+    × (SaysNoWorkers found ⊎ IsNoReport (first_value found (codes "report"))))
     ⊎ (((name ≡ codes "explain")
     × (IsSaidIfAny (one_text found (codes "cycle")) None
     ⊎ IsSaidIfAny (one_text found (codes "router")) None))

@@ -4,7 +4,7 @@ ghost use Rattle.std.specs.Prelude.{◌≡◌, ◌⊎◌, ◌<◌, ◌≤◌, co
 ghost use Rattle.clap.specs.Words.{first_value, found_of, kind_of, one_text, subcommand_rows_of};
 ghost use Rattle.noc_commands.specs.Workers.{HasWorkers};
 ghost use Rattle.noc_commands.specs.declared.command.TheConstants.{MAX_WORKERS};
-ghost use Rattle.noc_cli.specs.Args.{AreNoVerdicts, AreVerdicts, IsAskedBy, IsCommand, IsNoCommand, IsNoRequest, IsRefusal, IsReport, IsRequestIn, IsSaidIfAny, NamesFiles, SaysNoWorkers, SaysWorkers};
+ghost use Rattle.noc_cli.specs.Args.{AreNoVerdicts, AreVerdicts, IsAskedBy, IsCommand, IsNoCommand, IsNoReport, IsNoRequest, IsRefusal, IsReport, IsRequestIn, IsSaidIfAny, NamesFiles, SaysNoWorkers, SaysWorkers};
 
 use crate::command_line::program;
 use clap::error::ErrorKind;
@@ -36,6 +36,8 @@ const NO_CYCLE: &str = "--cycle is missing";
 const NO_ROUTER: &str = "--router is missing";
 
 const NO_WORKERS: &str = "--workers is a number from 1 to 16";
+
+const NO_REPORT: &str = "--report takes the name of a report";
 
 const NO_VERDICTS: &str =
     "--verdict takes names of verdicts, as a trace writes them, with a comma between";
@@ -113,12 +115,14 @@ fn command_of(name: &str, matches: &ArgMatches<'_>) -> Result<Command, &'static 
 // The run that options ask for, or what is wrong with them.
 fn run_of(matches: &ArgMatches<'_>) -> Result<Command, &'static str>
     ensures ok { IfOk result (IsCommand (found_of matches.now) (codes "run")) }
-    ensures err { OnErr result (SaysNoWorkers (found_of matches.now)) }
+    ensures err { OnErr result (SaysNoWorkers (found_of matches.now)
+        ⊎ IsNoReport (first_value (found_of matches.now) (codes "report"))) }
 {
     let workers = workers_of(matches).ok_or(NO_WORKERS)?;
+    let report = report_of(matches).ok_or(NO_REPORT)?;
     Ok(Command::Run {
         workers,
-        report: report_of(matches),
+        report,
         drain: matches.get_flag("drain"),
     })
 }
@@ -192,12 +196,15 @@ fn verdicts_of(matches: &ArgMatches<'_>) -> Result<Option<VerdictSet>, &'static 
     }
 }
 
-// The report of a run.
-fn report_of(matches: &ArgMatches<'_>) -> Report
-    ensures { IsReport (first_value (found_of matches.now) (codes "report")) result }
+// The report of a run, which is that of latencies where none is named. clap lets through no word
+// that names none.
+fn report_of(matches: &ArgMatches<'_>) -> Option<Report>
+    ensures some { IfSome result (IsReport (first_value (found_of matches.now) (codes "report"))) }
+    ensures none { IfNone result (IsNoReport (first_value (found_of matches.now)
+        (codes "report"))) }
 {
     match matches.get_str("report") {
-        Some(arg) => Report::named(arg).unwrap_or(Report::Latency),
-        None => Report::Latency,
+        Some(arg) => Report::named(arg),
+        None => Some(Report::Latency),
     }
 }

@@ -58,6 +58,14 @@ module _ (size vcs : ℕ) (a b : Allotment) (some : 0 < vcs) (few : size ≤ 64)
               absurd (true≢false (sym (ap₂ (λ x y. x && y) out won) ∙ none-each 64 (λ p. has_bit has.outs p && has_bit (first_of has.requests a.turn p) k) nobody o (out-below o out)))
       at (inr found) = let parts = and_parts (has_bit has.outs found.0) (has_bit (first_of has.requests a.turn found.0) k) found.2 in (found.0, parts.0, parts.1)
 
+  -- who sends by a virtual channel that a port has still does
+  pub sends-within : (k : ℕ) → a.out_vc k < vcs → b.out_vc k < vcs
+  sends-within k before = at (has_bit b.granted k) refl
+    where
+      at : (x : Bool) → has_bit b.granted k ≡ x → b.out_vc k < vcs
+      at true given = let w = winner-of k given in subst (λ v. v < vcs) (sym (has.numbers w.0 k w.1 w.2).1) (part size vcs some w.0)
+      at false ungiven = subst (λ v. v < vcs) (sym (has.kept k (ap (λ x. has_bit x k) (sym granted-is) ∙ ungiven)).1) before
+
   granted-below : MembersAreBelow size b.granted
   granted-below k e = let w = winner-of k e in waits k (winner-waits w.0 k w.1 w.2)
 

@@ -8,8 +8,8 @@ use Rattle.noc_packet.specs.Set.{has_bit, IsLeast}
 use Rattle.noc_packet.proofs.SetLemmas.{both_members, has_bit-zero, either_members, zero_from_none}
 use Rattle.noc_sets.specs.Grants.{AreAsks, asked_of}
 use Rattle.noc_sets.specs.Sets.{least, less, lowest}
-use Rattle.noc_sets.proofs.MemberLemmas.{above_64, least_is, lowest-is, or-cases, or-false, or-left, or-right, or-zero, power-members}
-use Rattle.noc_columns.proofs.LoopLemmas.{all-done, least-same, left-part, none-left, not-done, not-left}
+use Rattle.noc_sets.proofs.MemberLemmas.{above_64, least_below, least_is, less_members, lowest-is, or-cases, or-false, or-left, or-right, or-zero, power-members}
+use Rattle.noc_columns.proofs.LoopLemmas.{all-done, and-false, and-true, least-same, left-part, none-left, not-done, not-left}
 
 -- ---- one more channel asks
 -- the members that a test has, and one more
@@ -56,14 +56,6 @@ module _ (waits next : ℕ → Bool) (idle : ℕ) (set requests : ℕ → ℕ) (
       is : asked_of idle (set t) ≡ Some (least (bit_and (set t) idle))
       is = ap (λ b. if b then None else Some (least (bit_and (set t) idle))) (ne_eqb (bit_and (set t) idle) 0 (λ e. absurd (omega arith)))
 
-      and-true : (b : Bool) → (b && true) ≡ b
-      and-true true = refl
-      and-true false = refl
-
-      and-false : (b : Bool) → (b && false) ≡ false
-      and-false true = refl
-      and-false false = refl
-
       asked : (o k : ℕ) → o < 64 → (o ≡ least (bit_and (set t) idle)) ⊎ (o ≢ least (bit_and (set t) idle)) → has_bit (after o) k ≡ (next k && is_some_of (asked_of idle (set k)) o)
       asked o k l (inl same) =
           ap (λ x. has_bit x k) (ap after same ∙ here ∙ ap (λ x. bit_or (requests x) (2 ^ t)) (sym same)) ∙ either_members (requests o) (2 ^ t) k
@@ -102,10 +94,6 @@ module _ (waits next : ℕ → Bool) (idle : ℕ) (set requests : ℕ → ℕ) (
       is : asked_of idle (set t) ≡ None
       is = ap (λ b. if b then None else Some (least (bit_and (set t) idle))) (eq-eqb (bit_and (set t) idle) 0 z)
 
-      and-false : (b : Bool) → (b && false) ≡ false
-      and-false true = refl
-      and-false false = refl
-
       same : (test : Option ℕ → Bool) → test None ≡ false → (k : ℕ) → (waits k && test (asked_of idle (set k))) ≡ (next k && test (asked_of idle (set k)))
       same test none k =
           sym (asks-of None is test k ∙ ap (λ b. (waits k && test (asked_of idle (set k))) || (nat_eq k t && b)) none
@@ -141,23 +129,30 @@ asks-requests waits idle set requests after outs inputs wanted are same = record
   wanted_by = are.wanted_by;
 }
 
+-- those of these channels that ask for none
+abbrev pub AskNone : (ℕ → Bool) → ℕ → (ℕ → ℕ) → ℕ → Type 0
+AskNone waits idle set none = (k : ℕ) → has_bit none k ≡ (waits k && not (is_some (asked_of idle (set k))))
+
 -- the step of the loop: what the least waiting channel that is left asks for is noted at a place
 module _ (waiting rest idle t : ℕ) (set requests : ℕ → ℕ) (outs inputs wanted : ℕ) (is : IsLeast (has_bit rest) (Some t)) (part : (k : ℕ) → has_bit rest k ≡ true → has_bit waiting k ≡ true)
     (fits : bit_and (set t) idle < 2 ^ 64) (are : AreAsks (λ k. has_bit waiting k && not (has_bit rest k)) idle set requests outs inputs wanted) where
   abbrev next : ℕ → Bool
   next k = has_bit waiting k && not (has_bit (less rest (lowest rest)) k)
 
+  abbrev done : ℕ → Bool
+  done k = has_bit waiting k && not (has_bit rest k)
+
+  more : (k : ℕ) → next k ≡ (done k || nat_eq k t)
+  more k = not-left waiting rest t k is part
+
+  new : done t ≡ false
+  new = not-done waiting rest t is.0
+
   pub asks-step : (after : ℕ → ℕ) (asks place : ℕ) → asks ≡ (if nat_eq (bit_and (set t) idle) 0 then 0 else 2 ^ t) → (0 < bit_and (set t) idle → place ≡ least (bit_and (set t) idle))
-      → after place ≡ bit_or (requests place) asks → ((o : ℕ) → o ≢ place → after o ≡ requests o)
-      → AreAsks (λ k. has_bit waiting k && not (has_bit (less rest (lowest rest)) k)) idle set after (bit_or outs (lowest (bit_and (set t) idle))) (bit_or inputs asks) (bit_or wanted (set t))
-  asks-step after asks place asked there here others = at (cases_lt 0 (bit_and (set t) idle))
+      → (bit_and (set t) idle ≡ 0 → place ≡ 64) → after place ≡ bit_or (requests place) (2 ^ t) → ((o : ℕ) → o ≢ place → after o ≡ requests o)
+      → AreAsks next idle set after (bit_or outs (lowest (bit_and (set t) idle))) (bit_or inputs asks) (bit_or wanted (set t))
+  asks-step after asks place asked there past here others = at (cases_lt 0 (bit_and (set t) idle))
     where
-      more : (k : ℕ) → next k ≡ ((has_bit waiting k && not (has_bit rest k)) || nat_eq k t)
-      more k = not-left waiting rest t k is part
-
-      new : (has_bit waiting t && not (has_bit rest t)) ≡ false
-      new = not-done waiting rest t is.0
-
       at : (0 < bit_and (set t) idle) ⊎ (bit_and (set t) idle ≤ 0) → AreAsks next idle set after (bit_or outs (lowest (bit_and (set t) idle))) (bit_or inputs asks) (bit_or wanted (set t))
       at (inl free) =
           let out : lowest (bit_and (set t) idle) ≡ 2 ^ least (bit_and (set t) idle) = lowest-is (bit_and (set t) idle) free fits in
@@ -165,52 +160,93 @@ module _ (waiting rest idle t : ℕ) (set requests : ℕ → ℕ) (outs inputs w
           let it : place ≡ least (bit_and (set t) idle) = there free in
           subst (λ x. AreAsks next idle set after (bit_or outs x) (bit_or inputs asks) (bit_or wanted (set t))) (sym out)
           (subst (λ x. AreAsks next idle set after (bit_or outs (2 ^ least (bit_and (set t) idle))) (bit_or inputs x) (bit_or wanted (set t))) (sym one)
-          (asks-next (λ k. has_bit waiting k && not (has_bit rest k)) next idle set requests outs inputs wanted t are new more after free
-          (ap after (sym it) ∙ here ∙ ap (λ x. bit_or (requests x) asks) it ∙ ap (bit_or (requests (least (bit_and (set t) idle)))) one)
+          (asks-next done next idle set requests outs inputs wanted t are new more after free
+          (ap after (sym it) ∙ here ∙ ap (λ x. bit_or (requests x) (2 ^ t)) it)
           (λ o l other. others o (λ e. other (e ∙ it)))))
       at (inr none) =
           let z : bit_and (set t) idle ≡ 0 = omega arith in
           let out : bit_or outs (lowest (bit_and (set t) idle)) ≡ outs = ap (λ n. bit_or outs (lowest n)) z ∙ or-zero outs in
           let nothing : asks ≡ 0 = asked ∙ ap (λ b. if b then 0 else 2 ^ t) (eq-eqb (bit_and (set t) idle) 0 z) in
+          let it : place ≡ 64 = past z in
           subst (λ x. AreAsks next idle set after x (bit_or inputs asks) (bit_or wanted (set t))) (sym out)
           (subst (λ x. AreAsks next idle set after outs x (bit_or wanted (set t))) (sym (ap (bit_or inputs) nothing ∙ or-zero inputs))
           (asks-requests next idle set requests after outs inputs (bit_or wanted (set t))
-          (asks-none (λ k. has_bit waiting k && not (has_bit rest k)) next idle set requests outs inputs wanted t are new more z)
-          (λ o l. same o nothing (cases_eq o place))))
-        where
-          same : (o : ℕ) → asks ≡ 0 → (o ≡ place) ⊎ (o ≢ place) → after o ≡ requests o
-          same o nothing (inl e) = ap after e ∙ here ∙ ap (bit_or (requests place)) nothing ∙ or-zero (requests place) ∙ ap requests (sym e)
-          same o nothing (inr other) = others o other
+          (asks-none done next idle set requests outs inputs wanted t are new more z)
+          (λ o l. others o (omega (arith, l, it)))))
+
+  -- and behind all places stand those that ask for none
+  pub left-step : (after : ℕ → ℕ) (place : ℕ) → (0 < bit_and (set t) idle → place ≡ least (bit_and (set t) idle)) → (bit_and (set t) idle ≡ 0 → place ≡ 64)
+      → after place ≡ bit_or (requests place) (2 ^ t) → ((o : ℕ) → o ≢ place → after o ≡ requests o) → AskNone done idle set (requests 64) → AskNone next idle set (after 64)
+  left-step after place there past here others old k = at (cases_lt 0 (bit_and (set t) idle))
+    where
+      test : Option ℕ → Bool
+      test ask = not (is_some ask)
+
+      at : (0 < bit_and (set t) idle) ⊎ (bit_and (set t) idle ≤ 0) → has_bit (after 64) k ≡ (next k && test (asked_of idle (set k)))
+      at (inl free) =
+          let ask : asked_of idle (set t) ≡ Some (least (bit_and (set t) idle)) = ap (λ b. if b then None else Some (least (bit_and (set t) idle))) (ne_eqb (bit_and (set t) idle) 0 (λ e. absurd (omega arith))) in
+          ap (λ x. has_bit x k) (others 64 (omega (arith, there free, least_below (bit_and (set t) idle) free fits))) ∙ old k
+          ∙ sym (asks-of done next idle set requests outs inputs wanted t are new more (Some (least (bit_and (set t) idle))) ask test k
+          ∙ ap (λ b. (done k && test (asked_of idle (set k))) || b) (and-false (nat_eq k t)) ∙ or-false (done k && test (asked_of idle (set k))))
+      at (inr none) =
+          let z : bit_and (set t) idle ≡ 0 = omega arith in
+          let ask : asked_of idle (set t) ≡ None = ap (λ b. if b then None else Some (least (bit_and (set t) idle))) (eq-eqb (bit_and (set t) idle) 0 z) in
+          ap (λ x. has_bit x k) (ap after (sym (past z)) ∙ here ∙ ap (λ x. bit_or (requests x) (2 ^ t)) (past z)) ∙ either_members (requests 64) (2 ^ t) k
+          ∙ ap₂ (λ a b. a || b) (old k) (power-members t k ∙ sym (and-true (nat_eq k t)))
+          ∙ sym (asks-of done next idle set requests outs inputs wanted t are new more None ask test k)
 
 -- what the code's loop keeps
-pub record AreAsking (waiting idle : ℕ) (set requests : ℕ → ℕ) (outs inputs wanted rest : ℕ) : Type 0 where
+pub record AreAsking (waiting idle : ℕ) (set requests : ℕ → ℕ) (outs wanted rest : ℕ) : Type 0 where
   pub part : (k : ℕ) → has_bit rest k ≡ true → has_bit waiting k ≡ true
-  pub asks : AreAsks (λ k. has_bit waiting k && not (has_bit rest k)) idle set requests outs inputs wanted
+  pub asks : (inputs : ℕ) × AreAsks (λ k. has_bit waiting k && not (has_bit rest k)) idle set requests outs inputs wanted
+  pub left : AskNone (λ k. has_bit waiting k && not (has_bit rest k)) idle set (requests 64)
 
-pub asking-opened : (waiting idle : ℕ) (set requests : ℕ → ℕ) (outs inputs wanted : ℕ) → outs ≡ 0 → inputs ≡ 0 → wanted ≡ 0 → ((o : ℕ) → o < 64 → requests o ≡ 0) → AreAsking waiting idle set requests outs inputs wanted waiting
-asking-opened waiting idle set requests outs inputs wanted eo ei ew empty = rw (eo, ei, ew) (record {
+pub asking-opened : (waiting idle : ℕ) (set requests : ℕ → ℕ) (outs wanted : ℕ) → outs ≡ 0 → wanted ≡ 0 → ((o : ℕ) → o < 64 → requests o ≡ 0) → requests 64 ≡ 0 → AreAsking waiting idle set requests outs wanted waiting
+asking-opened waiting idle set requests outs wanted eo ew empty none = rw (eo, ew) (record {
   part = λ k e. e;
-  asks = asks-nobody _ idle set requests (λ k. none-left waiting k) empty;
+  asks = (0, asks-nobody _ idle set requests (λ k. none-left waiting k) empty);
+  left = λ k. ap (λ x. has_bit x k) none ∙ has_bit-zero k ∙ sym (ap (λ b. b && not (is_some (asked_of idle (set k)))) (none-left waiting k));
 })
 
-pub asking-stepped : (waiting idle rest left t : ℕ) (set requests after : ℕ → ℕ) (outs inputs wanted new_outs new_inputs new_wanted s free one asks place low : ℕ) → IsLeast (has_bit rest) (Some t)
-    → s ≡ set t → free ≡ bit_and s idle → free < 2 ^ 64 → one ≡ 2 ^ t → asks ≡ (if nat_eq free 0 then 0 else one) → (0 < free → IsLeast (has_bit free) (Some place))
-    → after place ≡ bit_or (requests place) asks → ((o : ℕ) → o ≢ place → after o ≡ requests o)
-    → low ≡ lowest free → new_outs ≡ bit_or outs low → new_inputs ≡ bit_or inputs asks → new_wanted ≡ bit_or wanted s → left ≡ less rest (lowest rest)
-    → AreAsking waiting idle set requests outs inputs wanted rest → AreAsking waiting idle set after new_outs new_inputs new_wanted left
-asking-stepped waiting idle rest left t set requests after outs inputs wanted new_outs new_inputs new_wanted s free one asks place low is es ef fits eo ea there here others el eno eni enw er are =
+pub asking-stepped : (waiting idle rest left t : ℕ) (set requests after : ℕ → ℕ) (outs wanted new_outs new_wanted s free one place low : ℕ) → IsLeast (has_bit rest) (Some t)
+    → s ≡ set t → free ≡ bit_and s idle → free < 2 ^ 64 → one ≡ 2 ^ t → (0 < free → IsLeast (has_bit free) (Some place)) → (free ≡ 0 → place ≡ 64)
+    → after place ≡ bit_or (requests place) one → ((o : ℕ) → o ≢ place → after o ≡ requests o)
+    → low ≡ lowest free → new_outs ≡ bit_or outs low → new_wanted ≡ bit_or wanted s → left ≡ less rest (lowest rest)
+    → AreAsking waiting idle set requests outs wanted rest → AreAsking waiting idle set after new_outs new_wanted left
+asking-stepped waiting idle rest left t set requests after outs wanted new_outs new_wanted s free one place low is es ef fits eo there past here others el eno enw er are =
     let free_is : free ≡ bit_and (set t) idle = ef ∙ ap (λ n. bit_and n idle) es in
     let fits_is : bit_and (set t) idle < 2 ^ 64 = subst (λ n. n < 2 ^ 64) free_is fits in
-    let asked : asks ≡ (if nat_eq (bit_and (set t) idle) 0 then 0 else 2 ^ t) = ea ∙ ap₂ (λ n m. if nat_eq n 0 then 0 else m) free_is eo in
-    rw (eno, eni, enw, er, el, es, free_is) (record {
+    let inputs = are.asks.0 in
+    let asks = if nat_eq (bit_and (set t) idle) 0 then 0 else 2 ^ t in
+    let at_least : 0 < bit_and (set t) idle → place ≡ least (bit_and (set t) idle) = (λ some. let more : 0 < free = subst (λ n. 0 < n) (sym free_is) some in least-same free place more fits (there more) ∙ ap least free_is) in
+    let at_past : bit_and (set t) idle ≡ 0 → place ≡ 64 = (λ z. past (free_is ∙ z)) in
+    let written : after place ≡ bit_or (requests place) (2 ^ t) = here ∙ ap (bit_or (requests place)) eo in
+    rw (eno, enw, er, el, es, free_is) (record {
       part = left-part waiting rest t is are.part;
-      asks = asks-step waiting rest idle t set requests outs inputs wanted is are.part fits_is are.asks after asks place asked
-          (λ some. let more : 0 < free = subst (λ n. 0 < n) (sym free_is) some in least-same free place more fits (there more) ∙ ap least free_is)
-          here others;
+      asks = (bit_or inputs asks, asks-step waiting rest idle t set requests outs inputs wanted is are.part fits_is are.asks.1 after asks place refl at_least at_past written others);
+      left = left-step waiting rest idle t set requests outs inputs wanted is are.part fits_is are.asks.1 after place at_least at_past written others are.left;
     })
 
-pub asking-all : (waiting idle : ℕ) (set requests : ℕ → ℕ) (outs inputs wanted rest : ℕ) → rest ≡ 0 → AreAsking waiting idle set requests outs inputs wanted rest → AreAsks (has_bit waiting) idle set requests outs inputs wanted
-asking-all waiting idle set requests outs inputs wanted rest none are = asks-same _ (has_bit waiting) idle set requests outs inputs wanted are.asks (λ k. sym (all-done waiting rest k none))
+-- who is not among those that ask for none asks
+pub asking-all : (waiting idle : ℕ) (set requests : ℕ → ℕ) (outs inputs wanted rest : ℕ) → rest ≡ 0 → inputs ≡ less waiting (requests 64) → AreAsking waiting idle set requests outs wanted rest
+    → AreAsks (has_bit waiting) idle set requests outs inputs wanted
+asking-all waiting idle set requests outs inputs wanted rest none others are =
+    let all = asks-same _ (has_bit waiting) idle set requests outs are.asks.0 wanted are.asks.1 (λ k. sym (all-done waiting rest k none)) in
+    record {
+      asked = all.asked;
+      asked_for = all.asked_for;
+      asking = λ k.
+          ap (λ x. has_bit x k) others ∙ less_members waiting (requests 64) k
+          ∙ ap (λ b. has_bit waiting k && not b) (are.left k ∙ ap (λ b. b && not (is_some (asked_of idle (set k)))) (all-done waiting rest k none))
+          ∙ both (has_bit waiting k) (is_some (asked_of idle (set k)));
+      wanted = all.wanted;
+      wanted_by = all.wanted_by;
+    }
+  where
+    both : (w s : Bool) → (w && not (w && not s)) ≡ (w && s)
+    both true true = refl
+    both true false = refl
+    both false s = refl
 
 -- ---- who asks for what
 -- an output channel that is asked for has requests
@@ -254,13 +290,9 @@ asks-idle waits idle set requests outs inputs all are fits idle_fits o e = at (c
     at : (has_bit idle o ≡ true) ⊎ (has_bit idle o ≡ false) → has_bit idle o ≡ true
     at (inl t) = t
     at (inr f) =
-        let none : requests o ≡ 0 = zero_from_none (requests o) (λ k. are.asked o k within ∙ ap (λ b. waits k && b) (other k (cases_eq (bit_and (set k) idle) 0)) ∙ and-none (waits k)) in
+        let none : requests o ≡ 0 = zero_from_none (requests o) (λ k. are.asked o k within ∙ ap (λ b. waits k && b) (other k (cases_eq (bit_and (set k) idle) 0)) ∙ and-false (waits k)) in
         absurd (true≢false (sym e ∙ are.asked_for o within ∙ ap (λ x. not (nat_eq x 0)) none))
       where
-        and-none : (b : Bool) → (b && false) ≡ false
-        and-none true = refl
-        and-none false = refl
-
         other : (k : ℕ) → (bit_and (set k) idle ≡ 0) ⊎ (bit_and (set k) idle ≢ 0) → is_some_of (asked_of idle (set k)) o ≡ false
         other k (inl z) = ap (λ b. is_some_of (if b then None else Some (least (bit_and (set k) idle))) o) (eq-eqb (bit_and (set k) idle) 0 z)
         other k (inr n) =
@@ -269,3 +301,19 @@ asks-idle waits idle set requests outs inputs all are fits idle_fits o e = at (c
             let member = (and_parts (has_bit (set k) (least (bit_and (set k) idle))) (has_bit idle (least (bit_and (set k) idle))) (sym (both_members (set k) idle (least (bit_and (set k) idle))) ∙ (least_is (bit_and (set k) idle) some small).0)).1 in
             ap (λ b. is_some_of (if b then None else Some (least (bit_and (set k) idle))) o) (ne_eqb (bit_and (set k) idle) 0 n)
             ∙ ne_eqb (least (bit_and (set k) idle)) o (λ same. true≢false (sym member ∙ ap (has_bit idle) same ∙ f))
+
+-- where no output channel is asked for nobody asks
+pub asks-nothing : (waits : ℕ → Bool) (idle : ℕ) (set requests : ℕ → ℕ) (outs inputs all : ℕ) → AreAsks waits idle set requests outs inputs all → outs ≡ 0 → idle < 2 ^ 64 → inputs ≡ 0
+asks-nothing waits idle set requests outs inputs all are none idle_fits = zero_from_none inputs (λ k. are.asking k ∙ at k (cases_eq (bit_and (set k) idle) 0))
+  where
+    at : (k : ℕ) → (bit_and (set k) idle ≡ 0) ⊎ (bit_and (set k) idle ≢ 0) → (waits k && is_some (asked_of idle (set k))) ≡ false
+    at k (inl z) = ap (λ b. waits k && is_some (if b then None else Some (least (bit_and (set k) idle)))) (eq-eqb (bit_and (set k) idle) 0 z) ∙ and-false (waits k)
+    at k (inr n) =
+        let free = bit_and (set k) idle in
+        let o = least free in
+        let some : 0 < free = omega (arith, n) in
+        let small : free < 2 ^ 64 = omega (arith, and_le_r (set k) idle, idle_fits) in
+        let within : o < 64 = in-word free o small (least_is free some small).0 in
+        let unasked : requests o ≡ 0 = asked-none (requests o) (sym (are.asked_for o within) ∙ ap (λ w. has_bit w o) none ∙ has_bit-zero o) in
+        let it : asked_of idle (set k) ≡ Some o = ap (λ b. if b then None else Some o) (ne_eqb free 0 n) in
+        ap (λ x. waits k && is_some x) it ∙ ap (λ b. waits k && b) (sym (eq-eqb o o refl)) ∙ ap (λ x. waits k && is_some_of x o) (sym it) ∙ sym (are.asked o k within) ∙ ap (λ w. has_bit w k) unasked ∙ has_bit-zero k

@@ -22,6 +22,7 @@ pub mod TableLemmas
 pub mod AskLemmas
 pub mod GivenLemmas
 pub mod GrantLemmas
+pub mod AloneLemmas
 pub mod MarkLemmas
 pub mod AllotmentLemmas
 pub mod AllocatedLemmas

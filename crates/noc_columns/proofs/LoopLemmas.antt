@@ -28,9 +28,13 @@ least-same a t some fits is = same (least-one (has_bit a) (Some t) (Some (least 
 pub left-members : (rest t k : ℕ) → IsLeast (has_bit rest) (Some t) → has_bit (less rest (lowest rest)) k ≡ (has_bit rest k && not (nat_eq k t))
 left-members rest t k is = less_members rest (lowest rest) k ∙ ap (λ b. has_bit rest k && not b) (lowest_members rest t k is)
 
-and-true : (b : Bool) → (b && true) ≡ b
+pub and-true : (b : Bool) → (b && true) ≡ b
 and-true true = refl
 and-true false = refl
+
+pub and-false : (b : Bool) → (b && false) ≡ false
+and-false true = refl
+and-false false = refl
 
 -- those that are left are members
 pub left-part : (set rest t : ℕ) → IsLeast (has_bit rest) (Some t) → ((i : ℕ) → has_bit rest i ≡ true → has_bit set i ≡ true)

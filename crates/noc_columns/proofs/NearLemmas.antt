@@ -1,9 +1,9 @@
 -- A word turned by a distance has of each router what the one so far from it had.
-use Rattle.std.proofs.Common.{◌≡◌, ◌⊎◌, ℕ, ◌+◌, ◌-◌, ◌*◌, ◌/◌, ◌%◌, ◌^◌, ◌<◌, ◌≤◌, Bool, true, false, List, Option, Some, None, arith, mul_assoc, ap, ap₂, sym, ◌∙◌, refl, inl, inr, bit_and, bit_or, slice_index}
+use Rattle.std.proofs.Common.{◌≡◌, ◌⊎◌, ℕ, ◌+◌, ◌-◌, ◌*◌, ◌/◌, ◌%◌, ◌^◌, ◌<◌, ◌≤◌, Bool, true, false, List, Option, Some, None, arith, ap, ap₂, sym, ◌∙◌, refl, inl, inr, bit_and, bit_or, slice_index, w64}
 use Rattle.std.specs.Prelude.{◌&&◌, ◌||◌, not, nat_eq, if◌then◌else◌}
-use Rattle.std.specs.Int.{bit_at}
+use Rattle.std.specs.Int.{bit_at, rotate_right}
 use Rattle.std.proofs.lemmas.Bool.{and_parts, cases_lt, eq-eqb, eqb-true, lt-ltb, not-true, true≢false}
-use Rattle.std.proofs.lemmas.Nat.{mul-mod_first, pow-add, shr_split}
+use Rattle.std.proofs.lemmas.Nat.{shr_split}
 use Rattle.std.proofs.lemmas.Nat.Bits.{bit_at_cat_low}
 use Rattle.noc_packet.specs.Set.{has_bit}
 use Rattle.noc_packet.proofs.SetLemmas.{both_members, either_members, has_bit-above}
@@ -42,25 +42,43 @@ module _ (word distance r : ℕ) (fits : word < 2 ^ 64) (near : distance < 64) (
           ap₂ (λ x y. x || y) (has_bit-above word 64 (distance + r) fits (omega (arith, l)))
           (up_members word back r (omega (arith, e, near, l)) ∙ ap (has_bit word) (let f : r - back ≡ (r + distance) % 64 = omega (arith, e, l, near, few) in f))
 
-  -- by one step, and then by the others
-  steps-are : (back : ℕ) → word * 2 ^ 1 % 2 ^ 64 * 2 ^ back % 2 ^ 64 ≡ word * 2 ^ (1 + back) % 2 ^ 64
-  steps-are back =
-      mul-mod_first (word * 2 ^ 1) (2 ^ back) (2 ^ 64)
-      ∙ ap (λ n. n % 2 ^ 64) (mul_assoc word (2 ^ 1) (2 ^ back) ∙ ap (λ n. word * n) (sym (pow-add 2 1 back)))
+  -- forth and back, where the one is turned so far on
+  turn-is : (back : ℕ) → back ≡ (64 - distance) % 64 → has_bit (bit_or (word / 2 ^ distance) (word * 2 ^ back % 2 ^ 64)) r ≡ has_bit word ((r + distance) % 64)
+  turn-is back e =
+      either_members (word / 2 ^ distance) (word * 2 ^ back % 2 ^ 64) r
+      ∙ ap₂ (λ x y. x || y) down-is (up-is back)
+      ∙ at (cases_lt 0 distance)
+    where
+      or-same : (b : Bool) → (b || b) ≡ b
+      or-same true = refl
+      or-same false = refl
 
-  pub turned-is : (back mask : ℕ) → back ≡ 63 - distance → has_bit (bit_and (bit_or (word / 2 ^ distance) (word * 2 ^ 1 % 2 ^ 64 * 2 ^ back % 2 ^ 64)) mask) r ≡ comes_from distance mask word r
-  turned-is back mask e =
-      let up = word * 2 ^ 1 % 2 ^ 64 * 2 ^ back % 2 ^ 64 in
-      both_members (bit_or (word / 2 ^ distance) up) mask r
-      ∙ ap (λ x. x && has_bit mask r) (either_members (word / 2 ^ distance) up r
-      ∙ ap₂ (λ x y. x || y) down-is (ap (λ n. has_bit n r) (steps-are back) ∙ up-is (1 + back)) ∙ both-is (1 + back) (omega (arith, e, near)))
-      ∙ turn (has_bit word ((r + distance) % 64)) (has_bit mask r)
+      at : (0 < distance) ⊎ (distance ≤ 0) → (has_bit word (distance + r) || has_bit (up_by word back) r) ≡ has_bit word ((r + distance) % 64)
+      at (inl some) = both-is back (omega (arith, e, near, some))
+      at (inr none) =
+          ap₂ (λ x y. x || y)
+          (ap (has_bit word) (let f : distance + r ≡ (r + distance) % 64 = omega (arith, none, few) in f))
+          (up_members word back r (omega (arith, e, none)) ∙ ap (has_bit word) (let f : r - back ≡ (r + distance) % 64 = omega (arith, e, none, few) in f))
+          ∙ or-same (has_bit word ((r + distance) % 64))
+
+  masked-is : (mask turned : ℕ) → has_bit turned r ≡ has_bit word ((r + distance) % 64) → has_bit (bit_and turned mask) r ≡ comes_from distance mask word r
+  masked-is mask turned e = both_members turned mask r ∙ ap (λ x. x && has_bit mask r) e ∙ turn (has_bit word ((r + distance) % 64)) (has_bit mask r)
     where
       turn : (a b : Bool) → (a && b) ≡ (b && a)
       turn true true = refl
       turn true false = refl
       turn false true = refl
       turn false false = refl
+
+  pub turned-is : (back mask : ℕ) → back ≡ (64 - distance) % 64 → has_bit (bit_and (bit_or (word / 2 ^ distance) (word * 2 ^ back % 2 ^ 64)) mask) r ≡ comes_from distance mask word r
+  turned-is back mask e = masked-is mask _ (turn-is back e)
+
+  -- at once
+  pub turned_alone-is : (mask by : ℕ) → by ≡ distance → has_bit (bit_and (rotate_right w64 word by) mask) r ≡ comes_from distance mask word r
+  turned_alone-is mask by e =
+      let low : by % 64 ≡ distance = omega (arith, e, near) in
+      ap (λ d. has_bit (bit_and (bit_or (word / 2 ^ d) (word * 2 ^ ((64 - d) % 64) % 2 ^ 64)) mask) r) low
+      ∙ turned-is ((64 - distance) % 64) mask refl
 
 -- ---- what comes over a link
 pub brought-is : (g : Grid) (s p v vcs : ℕ) (places : Places) (sent words : ℕ → ℕ) → ArePlaces g s p places

@@ -291,7 +291,7 @@ or-no true = refl
 or-no false = refl
 
 -- the first of the numbers, and the others
-some-shift : (n : ℕ) (t : ℕ → Bool) → some_below (suc n) t ≡ (t zero || some_below n (λ j. t (suc j)))
+pub some-shift : (n : ℕ) (t : ℕ → Bool) → some_below (suc n) t ≡ (t zero || some_below n (λ j. t (suc j)))
 some-shift zero t = or-no (t zero)
 some-shift (suc n) t = ap (λ b. b || t (suc n)) (some-shift n t) ∙ or-assoc (t zero) (some_below n (λ j. t (suc j))) (t (suc n))
 

@@ -78,6 +78,14 @@ one-both n test of k l is alone = at (of k) refl
           absurd (true≢false (sym parts.1 ∙ ap of (alone found.0 found.1 parts.0) ∙ e))
     ]
 
+-- .. where none of its members passes
+pub none-both : (n : ℕ) (test of : ℕ → Bool) → ((k : ℕ) → k < n → test k ≡ true → of k ≡ false) → some_below n (λ c. test c && of c) ≡ false
+none-both n test of none = at (find-first n (λ c. test c && of c))
+  where
+    at : (some_below n (λ c. test c && of c) ≡ false) ⊎ ((t : ℕ) × (t < n) × ((test t && of t) ≡ true) × (some_below t (λ c. test c && of c) ≡ false)) → some_below n (λ c. test c && of c) ≡ false
+    at (inl e) = e
+    at (inr found) = let parts = and_parts (test found.0) (of found.0) found.2 in absurd (true≢false (sym parts.1 ∙ none found.0 found.1 parts.0))
+
 pub lowest-least : (a c : ℕ) → has_bit (lowest a) c ≡ true → IsLeast (has_bit a) (Some c)
 lowest-least a c is = at (find-first (suc c) (has_bit a))
   where

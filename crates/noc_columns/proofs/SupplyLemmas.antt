@@ -1,17 +1,19 @@
 -- A tree of choices by the bits of a number gives what is at this number.
-use Rattle.std.proofs.Common.{◌≡◌, ◌≢◌, ◌/◌, ◌%◌, ◌^◌, ◌-◌, inl, inr, ◌∷◌, [], ℕ, zero, suc, ◌+◌, ◌*◌, ◌<◌, ◌≤◌, Bool, true, false, List, arith, ap, ap₂, sym, ◌∙◌, refl, bit_and, bit_xor}
+use Rattle.std.proofs.Common.{◌≡◌, ◌≢◌, ◌/◌, ◌%◌, ◌^◌, ◌-◌, inl, inr, ◌∷◌, [], ℕ, zero, suc, ◌+◌, ◌*◌, ◌<◌, ◌≤◌, Bool, true, false, List, arith, ap, ap₂, sym, ◌∙◌, refl, bit_and, bit_or, bit_xor, mul-le-mul_right}
 use Rattle.std.specs.Prelude.{slice_index, ◌⊎◌, nat_eq, not, ◌&&◌, ◌||◌, nat_lt, if◌then◌else◌}
 use Rattle.noc_topo.specs.Lists.{one_if}
 use Rattle.noc_packet.specs.Set.{has_bit}
-use Rattle.noc_packet.proofs.SetLemmas.{both_members, has_bit-zero}
+use Rattle.noc_packet.proofs.SetLemmas.{both_members, either_members, has_bit-zero}
 use Rattle.noc_sets.specs.Sets.{differ}
 use Rattle.noc_sets.proofs.MemberLemmas.{ones-members, xor_members}
-use Rattle.std.proofs.lemmas.Bool.{cases_eq, eq-eqb, lt-ltb, ne_eqb}
+use Rattle.std.proofs.lemmas.Nat.{mul-add-lt}
+use Rattle.std.proofs.lemmas.Bool.{cases_eq, cases_lt, eq-eqb, le-ltb, lt-ltb, ne_eqb}
 use Rattle.noc_columns.specs.Picks.{port_at}
-use Rattle.noc_columns.specs.Supply.{by_four, digits_by, is_fed, is_fed_word, number_in}
-use Rattle.noc_columns.specs.Words.{Numbering, set_of, word}
+use Rattle.noc_columns.specs.Supply.{DoesNotDrain, NoneIsDry, TellFed, by_four, digits_by, is_fed, is_fed_among, is_fed_word, number_in}
+use Rattle.noc_columns.specs.Words.{IsWithin, Numbering, set_of, word}
 use Rattle.noc_columns.specs.declared.ports.Ports.{Ports}
 use Rattle.noc_columns.specs.declared.supply.Digits.{Digits}
+use Rattle.noc_columns.specs.declared.supply.Sends.{Sends}
 use Rattle.noc_columns.specs.declared.supply.TheConstants.{FOURS, ONES, TWOS}
 use Rattle.noc_columns.proofs.SetLemmas.{below-members}
 
@@ -19,15 +21,13 @@ use Rattle.noc_columns.proofs.SetLemmas.{below-members}
 abbrev pub number : Bool → Bool → Bool → ℕ
 number a b c = one_if a + 2 * (one_if b + 2 * (one_if c + 2 * 0))
 
-pub number-few : (a b c : Bool) → number a b c < 8
-number-few true true true = omega arith
-number-few true true false = omega arith
-number-few true false true = omega arith
-number-few true false false = omega arith
-number-few false true true = omega arith
-number-few false true false = omega arith
-number-few false false true = omega arith
-number-few false false false = omega arith
+-- of a number below 4 there is no third bit
+pub no-fours : (a b c : Bool) → number a b c < 4 → c ≡ false
+no-fours a b false l = refl
+no-fours true true true l = absurd (omega arith)
+no-fours true false true l = absurd (omega arith)
+no-fours false true true l = absurd (omega arith)
+no-fours false false true l = absurd (omega arith)
 
 pub either-bit : (bits first second r : ℕ) → has_bit (bit_xor first (bit_and (bit_xor first second) bits)) r ≡ (if has_bit bits r then has_bit second r else has_bit first r)
 either-bit bits first second r =
@@ -125,8 +125,63 @@ pub number-is : (n : Numbering) (r c : ℕ) (d : Digits (List ℕ)) → c < n.si
 number-is n r c d l = λ i. number (member-is n r c d.ones l i) (member-is n r c d.twos l i) (member-is n r c d.fours l i)
 
 -- a link channel in the words and in the set of its port
-pub fed-is : (links : Ports) (some : List ℕ) (r q v : ℕ) → links.first ≡ 0 → v < links.vcs → is_fed_word links.width some r q v ≡ is_fed links.width (λ p. set_of (port_at links p) r some) q v
-fed-is links some r q v first l = ap (λ b. if nat_lt q links.width then b else true) (sym (member-is (port_at links q) r v some l ∙ ap (λ k. has_bit (word k some) r) (let e : links.first + v * links.width + q ≡ v * links.width + q = omega (arith, first) in e)))
+in-port : (links : Ports) (words : List ℕ) (r q v : ℕ) → links.first ≡ 0 → v < links.vcs → has_bit (set_of (port_at links q) r words) v ≡ has_bit (word (v * links.width + q) words) r
+in-port links words r q v first l =
+    let e : links.first + v * links.width + q ≡ v * links.width + q = omega (arith, first) in
+    member-is (port_at links q) r v words l ∙ ap (λ k. has_bit (word k words) r) e
+
+-- ---- of the virtual channels some are looked at
+pub among-looked : (looked links : ℕ) (some : List ℕ) (r q v : ℕ) → v < looked → is_fed_among looked links some r q v ≡ is_fed_word links some r q v
+among-looked looked links some r q v l = ap (λ b. if b then is_fed_word links some r q v else true) (lt-ltb v looked l)
+
+among-past : (looked links : ℕ) (some : List ℕ) (r q v : ℕ) → looked ≤ v → is_fed_among looked links some r q v ≡ true
+among-past looked links some r q v m = ap (λ b. if b then is_fed_word links some r q v else true) (le-ltb v looked m)
+
+-- those that are looked at and fed, and those past them
+pub fed-or-past : (fed past looked links : ℕ) (some : List ℕ) (r q v : ℕ) → (v < looked → has_bit fed r ≡ is_fed_word links some r q v) → has_bit past r ≡ not (nat_lt v looked)
+    → has_bit (bit_or fed past) r ≡ is_fed_among looked links some r q v
+fed-or-past fed past looked links some r q v told is = either_members fed past r ∙ ap (λ b. has_bit fed r || b) is ∙ at (cases_lt v looked)
+  where
+    at : (v < looked) ⊎ (looked ≤ v) → (has_bit fed r || not (nat_lt v looked)) ≡ is_fed_among looked links some r q v
+    at (inl l) = ap (λ b. has_bit fed r || not b) (lt-ltb v looked l) ∙ or-false (has_bit fed r) ∙ told l ∙ sym (among-looked looked links some r q v l)
+    at (inr m) = ap (λ b. has_bit fed r || not b) (le-ltb v looked m) ∙ or-true (has_bit fed r) ∙ sym (among-past looked links some r q v m)
+
+-- where no channel past them is dry
+pub among-is : (looked links : ℕ) (some draining : List ℕ) (r q v : ℕ) → NoneIsDry (looked * links) (8 * links) some draining → r < 64 → v < 8 → (q < links → has_bit (word (v * links + q) draining) r ≡ false)
+    → is_fed_among looked links some r q v ≡ is_fed_word links some r q v
+among-is looked links some draining r q v wet few l kept = at (cases_lt v looked)
+  where
+    past : looked ≤ v → (q < links) ⊎ (links ≤ q) → is_fed_word links some r q v ≡ true
+    past m (inl in_links) =
+        let from : looked * links ≤ v * links = mul-le-mul_right links m in
+        let below : v * links + q < links * 8 = mul-add-lt v links q 8 l in_links in
+        ap (λ b. if b then has_bit (word (v * links + q) some) r else true) (lt-ltb q links in_links)
+        ∙ sym (or-false (has_bit (word (v * links + q) some) r))
+        ∙ ap (λ b. has_bit (word (v * links + q) some) r || b) (sym (kept in_links))
+        ∙ wet (v * links + q) r (omega (arith, from)) (omega (arith, below)) few
+    past m (inr local) = ap (λ b. if b then has_bit (word (v * links + q) some) r else true) (le-ltb q links local)
+
+    at : (v < looked) ⊎ (looked ≤ v) → is_fed_among looked links some r q v ≡ is_fed_word links some r q v
+    at (inl near) = among-looked looked links some r q v near
+    at (inr m) = among-past looked links some r q v m ∙ sym (past m (cases_lt q links))
+
+-- the words tell it of each channel of a router
+pub told-of : (links : Ports) (count : ℕ) (sends : Sends (List ℕ)) (some draining supplied : List ℕ) → links.first ≡ 0 → TellFed count links.width links.vcs sends some draining supplied
+    → (n : Numbering) (r c : ℕ) → IsWithin count n → c < n.size → r < 64 → number_in (digits_by (set_of n r) sends.port) c ≤ links.width → number_in (digits_by (set_of n r) sends.vc) c < links.vcs
+    → DoesNotDrain links.width (λ q. set_of (port_at links q) r draining) (number_in (digits_by (set_of n r) sends.port) c) (number_in (digits_by (set_of n r) sends.vc) c)
+    → has_bit (set_of n r supplied) c ≡ is_fed links.width (λ q. set_of (port_at links q) r some) (number_in (digits_by (set_of n r) sends.port) c) (number_in (digits_by (set_of n r) sends.vc) c)
+told-of links count sends some draining supplied first tell n r c within l few port vc kept =
+    member-is n r c supplied l
+    ∙ coe 0 1
+    (i. v i < links.vcs → q i ≤ links.width → (q i < links.width → has_bit (word (v i * links.width + q i) draining) r ≡ false) → has_bit (word (n.index c) supplied) r ≡ is_fed_word links.width some r (q i) (v i))
+    (tell (n.index c) r (within c l) few) vc port (λ in_links. sym (in-port links draining r (q 1) (v 1) first vc) ∙ kept in_links)
+    ∙ ap (λ b. if nat_lt (q 1) links.width then b else true) (sym (in-port links some r (q 1) (v 1) first vc))
+  where
+    q : number_in (digits_by (word (n.index c)) sends.port) r ≡ number_in (digits_by (set_of n r) sends.port) c
+    q = sym (number-is n r c sends.port l)
+
+    v : number_in (digits_by (word (n.index c)) sends.vc) r ≡ number_in (digits_by (set_of n r) sends.vc) c
+    v = sym (number-is n r c sends.vc l)
 
 -- ---- a number is told digit by digit
 pub digit-is : (a : Bool) (m n : ℕ) → nat_eq (one_if a + 2 * m) n ≡ ((if nat_eq (n % 2) 1 then a else not a) && nat_eq m (n / 2))

@@ -23,14 +23,7 @@ use Rattle.noc_columns.proofs.PickLemmas.{apart, find-first, none-each, union-me
 use Rattle.noc_columns.proofs.PortLemmas.{lowest-alone, lowest-least, one-both, some-member}
 use Rattle.noc_columns.proofs.RouterLemmas.{below-fits, first-among}
 use Rattle.noc_columns.proofs.SetLemmas.{below-members, below-same}
-
-and-true : (b : Bool) → (b && true) ≡ b
-and-true true = refl
-and-true false = refl
-
-and-false : (b : Bool) → (b && false) ≡ false
-and-false true = refl
-and-false false = refl
+use Rattle.noc_columns.proofs.LoopLemmas.{and-false, and-true}
 
 -- a test of all with a fact beside it
 some-and : (n : ℕ) (b : Bool) (test : ℕ → Bool) → some_below n (λ k. b && test k) ≡ (b && some_below n test)

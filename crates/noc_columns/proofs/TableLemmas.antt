@@ -11,7 +11,7 @@ use Rattle.noc_columns.proofs.LoopLemmas.{all-done, none-left, not-left}
 less-self : (set : ℕ) → less set set ≡ 0
 less-self set = same-word _ 0 (λ k. less_members set set k ∙ none-left set k ∙ sym (has_bit-zero k))
 
-less-none : (set rest : ℕ) → rest ≡ 0 → less set rest ≡ set
+pub less-none : (set rest : ℕ) → rest ≡ 0 → less set rest ≡ set
 less-none set rest none = same-word _ set (λ k. less_members set rest k ∙ all-done set rest k none)
 
 -- two sets one after the other

@@ -1,5 +1,5 @@
 -- What allocation makes of the routers of a block.
-use Rattle.std.specs.Prelude.{◌≡◌, ℕ, ◌+◌, ◌*◌, ◌/◌, ◌%◌, ◌^◌, ◌<◌, true, false, List, [], ◌&&◌, nat_eq, nat_lt, bit_or, slice_index_or, if◌then◌else◌}
+use Rattle.std.specs.Prelude.{◌≡◌, ◌≢◌, ℕ, ◌+◌, ◌*◌, ◌/◌, ◌%◌, ◌^◌, ◌<◌, ◌≤◌, true, false, List, [], ◌&&◌, nat_eq, nat_lt, bit_or, slice_index_or, if◌then◌else◌}
 use Rattle.noc_packet.specs.Set.{has_bit}
 use Rattle.noc_alloc.specs.Members.{MembersAreBelow}
 use Rattle.noc_sets.specs.Column.{Column, RouterMarks}
@@ -70,6 +70,29 @@ pub record HasAllotted (vcs : ℕ) (a b : Allotment) : Type 0 where
   pub set : b.set ≡ a.set
   pub granted_is : b.granted ≡ bit_or a.granted granted
   pub lost_is : b.lost ≡ bit_or a.lost (less inputs granted)
+
+-- ---- of one router of a block
+-- its channels wait, and none of them is granted an output channel yet
+pub record MayAllot (ports : RouterPorts) (router : ℕ) (marks : Marks) (grants : Grants)
+    : Type 0 where
+  pub router_within : router < ROUTERS
+  pub some : 0 < word router marks.waiting
+  pub waiting : MembersAreBelow ((ports.links.width + 1) * ports.links.vcs)
+      (word router marks.waiting)
+  pub idle : MembersAreBelow ((ports.links.width + 1) * ports.links.vcs) (word router marks.idle)
+  pub free : set_of (channels_of ports) router grants.granted ≡ 0
+  pub room : grants.count + CHANNELS ≤ ROUTERS * CHANNELS
+
+-- it has allotted its own, and the others are as they were
+pub record HasAllottedOne (ports : RouterPorts) (router : ℕ) (marks marks' : Marks)
+    (grants grants' : Grants) (lost lost' : List ℕ) : Type 0 where
+  pub here : HasAllotted ports.links.vcs
+      (allotment_at (channels_of ports) marks grants lost router)
+      (allotment_at (channels_of ports) marks' grants' lost' router)
+  pub others : (r : ℕ) → r ≢ router
+      → allotment_at (channels_of ports) marks' grants' lost' r
+      ≡ allotment_at (channels_of ports) marks grants lost r
+  pub few : grants'.count ≤ grants.count + CHANNELS
 
 -- ---- of all routers of a block, where nothing is granted yet
 pub record MayAllotAll (ports : RouterPorts) (marks : Marks) (grants : Grants) : Type 0 where

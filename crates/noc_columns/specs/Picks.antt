@@ -10,8 +10,10 @@ use Rattle.noc_columns.specs.declared.channels.Decided.{Decided}
 use Rattle.noc_columns.specs.declared.channels.Standing.{Standing}
 use Rattle.noc_columns.specs.declared.ports.Ports.{Ports}
 use Rattle.noc_columns.specs.declared.ports.RouterPorts.{RouterPorts}
+use Rattle.noc_columns.specs.declared.supply.Digits.{Digits}
 use Rattle.noc_columns.specs.declared.supply.Sends.{Sends}
 use Rattle.noc_columns.specs.declared.picks.Picks.{Picks}
+use Rattle.noc_columns.specs.declared.words.TheConstants.{ROUTERS}
 
 -- the virtual channels of port j of those that stand side by side
 abbrev pub port_at : Ports → ℕ → Numbering
@@ -51,6 +53,12 @@ channels_of ports = record {
 -- ready, and at or after the pointer, unless there is no such one
 abbrev pub turn_word : ℕ → ℕ → ℕ → ℕ
 turn_word first ready ahead = less ready (less first ahead)
+
+-- each of these channels sends by a virtual channel that a port has
+abbrev pub SendByVcs : RouterPorts → List ℕ → Digits (List ℕ) → Type 0
+SendByVcs ports set vc =
+    (r i : ℕ) → r < ROUTERS → has_bit (set_of (channels_of ports) r set) i ≡ true
+    → number_in (digits_by (set_of (channels_of ports) r) vc) i < ports.links.vcs
 
 -- of a port the first channel in turn is picked, and these are past it
 pub record IsPicked (n : Numbering) (r : ℕ) (ready ahead picked past : List ℕ) : Type 0 where

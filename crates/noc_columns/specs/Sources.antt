@@ -1,9 +1,10 @@
 -- The sources of the routers of a block.
-use Rattle.std.specs.Prelude.{◌≡◌, ◌⊎◌, ℕ, ◌<◌, ◌≤◌, Bool, true, false, List, [], ◌∷◌, map, nat_le, slice_index}
+use Rattle.std.specs.Prelude.{◌≡◌, ◌⊎◌, ℕ, ◌+◌, ◌%◌, ◌<◌, ◌≤◌, Bool, true, false, List, [], ◌∷◌, map, nat_eq, nat_le, slice_index}
 use Rattle.noc_packet.specs.Set.{has_bit}
 use Rattle.noc_sets.specs.Planes.{plane_number}
 use Rattle.noc_sets.specs.Source.{NEVER, Source, Start, first_source, next_source, start_in}
 use Rattle.noc_columns.specs.declared.due.Due.{Due}
+use Rattle.noc_columns.specs.declared.due.TheConstants.{SOON}
 use Rattle.noc_columns.specs.declared.left.Left.{Left}
 use Rattle.noc_columns.specs.declared.sources.Sources.{Sources}
 use Rattle.noc_columns.specs.declared.starts.Start.{Start as Kept}
@@ -18,6 +19,16 @@ planes_of left =
 abbrev pub left_in : Left → ℕ → ℕ
 left_in left r = plane_number (planes_of left) r
 
+-- the routers whose packet comes to be due in a cycle, where that is known
+abbrev pub come_in : Due → ℕ → ℕ
+come_in due t = slice_index due.soon (t % SOON)
+
+-- of the cycles behind one it is known, up to another, which packets come to be due
+pub record AreKnown (cycle : ℕ) (due : Due) : Type 0 where
+  pub come : (r t : ℕ) → r < ROUTERS → cycle < t → t < due.until
+      → has_bit (come_in due t) r ≡ nat_eq t (slice_index due.at r)
+  pub until : due.until ≤ cycle + SOON
+
 -- these routers have a packet that is due in a cycle, and the next of the others is due then
 pub record AreDue (cycle : ℕ) (due : Due) : Type 0 where
   pub ready : (r : ℕ) → r < ROUTERS → has_bit due.ready r ≡ nat_le (slice_index due.at r) cycle
@@ -26,6 +37,7 @@ pub record AreDue (cycle : ℕ) (due : Due) : Type 0 where
   pub next : (due.next ≡ NEVER)
       ⊎ ((r : ℕ) × (r < ROUTERS) × (cycle < slice_index due.at r)
       × (slice_index due.at r ≡ due.next))
+  pub known : AreKnown cycle due
 
 -- the source of router r
 abbrev pub source_in : Sources → ℕ → Source

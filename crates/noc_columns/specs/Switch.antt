@@ -15,6 +15,7 @@ use Rattle.noc_columns.specs.declared.ports.RouterPorts.{RouterPorts}
 use Rattle.noc_columns.specs.declared.picks.Picks.{Picks}
 use Rattle.noc_columns.specs.declared.channels.Decided.{Decided}
 use Rattle.noc_columns.specs.declared.channels.Links.{Links}
+use Rattle.noc_columns.specs.declared.words.TheConstants.{ROUTERS}
 
 -- what the input ports pick: whether they do, and of the picked channel whether it has a tail in
 -- front, and the port and the virtual channel of its output channel
@@ -32,6 +33,12 @@ picks_in picks r = record {
   port = λ p. number_in (digits_by (word p) picks.port) r;
   vc = λ p. number_in (digits_by (word p) picks.vc) r;
 }
+
+-- each picked channel sends by a virtual channel that a port has
+abbrev pub PickVcs : RouterPorts → Picks → Type 0
+PickVcs ports picks =
+    (r p : ℕ) → r < ROUTERS → p < ports.links.width + 1 → (picks_in picks r).any p ≡ true
+    → (picks_in picks r).vc p < ports.links.vcs
 
 -- the input ports that ask for output port q: those whose picked channel sends by it
 abbrev pub asks_for : ℕ → PortPicks → ℕ → ℕ

@@ -4,26 +4,29 @@ ghost use Rattle.std.specs.Prelude.{◌≡◌, ◌≢◌, ◌<◌, ℕ, bit_or, 
 ghost use Rattle.noc_sets.specs.Grants.{AreAsks};
 ghost use Rattle.noc_columns.specs.Prelude.{has_bit};
 
-use crate::sets::{CHANNELS, but_lowest, least, least_or_any, lowest, where_some};
+use crate::marks::REQUESTS;
+use crate::planes::less;
+use crate::sets::{CHANNELS, but_lowest, least, least_or_past, lowest};
 
 /// What the waiting channels of a router ask for.
 #[derive(Drop)]
-pub struct Asks {
+pub(crate) struct Asks {
     /// The output channels that are asked for.
-    pub outs: u64,
+    pub(crate) outs: u64,
     /// The input channels that ask.
-    pub inputs: u64,
+    pub(crate) inputs: u64,
     /// The sets of all waiting channels.
-    pub wanted: u64,
+    pub(crate) wanted: u64,
 }
 
 /// Each waiting channel of a router asks for the least idle channel of its set. `requests` has none
-/// before, and then by output channel the input channels that ask for it.
-pub fn ask_all(
+/// before, and then by output channel the input channels that ask for it, and behind them those
+/// that ask for none. (So there is no test whether a channel asks.)
+pub(crate) fn ask_all(
     waiting: u64,
     idle: u64,
     sets: &[u64; CHANNELS],
-    requests: &mut [u64; CHANNELS],
+    requests: &mut [u64; REQUESTS],
 ) -> Asks
     requires { (o : ℕ) → o < CHANNELS → slice_index requests.old o ≡ 0 }
     ensures { AreAsks (has_bit waiting) idle (λ k. slice_index sets.now k)
@@ -31,36 +34,31 @@ pub fn ask_all(
 {
     let mut rest = waiting;
     let mut outs = 0;
-    let mut inputs = 0;
     let mut wanted = 0;
+    requests[CHANNELS] = 0;
     while rest != 0 {
         let input = least(rest);
         let set = sets[input];
         let free = set & idle;
-        let asks = where_some(free, 1 << input as u32);
-        let out = least_or_any(free);
-        ask_if(asks, out, requests);
+        ask(1 << input as u32, least_or_past(free), requests);
         outs = outs | lowest(free);
-        inputs = inputs | asks;
         wanted = wanted | set;
         rest = but_lowest(rest);
     }
     Asks {
         outs,
-        inputs,
+        inputs: less(waiting, requests[CHANNELS]),
         wanted,
     }
 }
 
-// These channels ask for an output channel, if there are some. (Mostly there are none, and then no
-// request is read or written.)
+// These channels ask for an output channel.
 #[inline(always)]
-fn ask_if(asks: u64, out: usize, requests: &mut [u64; CHANNELS])
-    requires { out < CHANNELS }
-    ensures here { slice_index requests.new out ≡ bit_or (slice_index requests.old out) asks }
+fn ask(channels: u64, out: usize, requests: &mut [u64; REQUESTS])
+    requires { out < REQUESTS }
+    ensures here { slice_index requests.new out
+        ≡ bit_or (slice_index requests.old out) channels }
     ensures others { (o : ℕ) → o ≢ out → slice_index requests.new o ≡ slice_index requests.old o }
 {
-    if asks != 0 {
-        requests[out] = requests[out] | asks;
-    }
+    requests[out] = requests[out] | channels;
 }

@@ -1,13 +1,17 @@
 //! Which sources have a packet that is due.
 
-ghost use Rattle.std.specs.Prelude.{◌≡◌, ◌≢◌, ◌<◌, ◌≤◌, ℕ, nat_le, slice_index, if◌then◌else◌};
-ghost use Rattle.noc_columns.specs.Sources.{AreDue};
+ghost use Rattle.std.specs.Prelude.{◌≡◌, ◌≢◌, ◌<◌, ◌≤◌, ◌+◌, ◌&&◌, ◌||◌, ℕ, true, nat_eq, nat_le, slice_index, if◌then◌else◌};
+ghost use Rattle.noc_columns.specs.Sources.{AreDue, AreKnown, come_in};
+ghost use Rattle.noc_columns.specs.Prelude.{has_bit};
 
 use crate::planes::less;
-use crate::words::{ROUTERS, alone_if};
+use crate::words::{ROUTERS, alone_if, with_router};
 
 /// Later than each cycle.
 pub const NEVER: u32 = 0xffff_ffff;
+
+/// Of how many cycles it is known at most which packets come to be due.
+pub const SOON: usize = 256;
 
 /// When the next packet of each source of a block is due.
 #[derive(Drop)]
@@ -18,6 +22,11 @@ pub struct Due {
     pub ready: u64,
     /// When the first of the others is due.
     pub next: u32,
+    /// By cycle, the routers whose packet comes to be due in it. (The places are gone around, and
+    /// those of cycles that are past are left as they are.)
+    pub soon: [u64; SOON],
+    /// The first cycle of which that is not known.
+    pub until: u32,
 }
 
 impl Due {
@@ -26,6 +35,7 @@ impl Due {
         ensures at { self.new.at ≡ self.old.at }
         ensures due { AreDue cycle self.new }
     {
+        self.keep_all(cycle);
         let mut ready = 0;
         let mut next = NEVER;
         for r in 0..ROUTERS {
@@ -44,7 +54,75 @@ impl Due {
             → AreDue cycle self.new }
     {
         if self.next <= cycle {
+            if self.next < cycle || self.until <= cycle {
+                self.look(cycle);
+            } else {
+                self.come(cycle);
+            }
+        }
+    }
+
+    // In this cycle the next packets come to be due, and it is known which.
+    #[inline(always)]
+    fn come(&mut self, cycle: u32)
+        requires next { self.old.next ≡ cycle }
+        requires known { cycle < self.old.until }
+        ensures at { self.new.at ≡ self.old.at }
+        ensures due { (before : ℕ) → before ≤ cycle → AreDue before self.old
+            → AreDue cycle self.new }
+    {
+        let next = self.next_known(cycle);
+        if next < self.until {
+            self.ready = self.ready | self.soon[cycle as usize % SOON];
+            self.next = next;
+        } else {
             self.look(cycle);
+        }
+    }
+
+    // The first cycle behind this one in which a packet comes to be due, of those that are known.
+    #[inline(always)]
+    fn next_known(&self, cycle: u32) -> u32
+        requires { cycle < self.now.until }
+        ensures none { (t : ℕ) → cycle < t → t < result → come_in self.now t ≡ 0 }
+        ensures some { result < self.now.until → (cycle < result)
+            × (r : ℕ) × (r < ROUTERS) × (has_bit (come_in self.now result) r ≡ true) }
+    {
+        let until = self.until;
+        for following in cycle + 1..until {
+            if self.soon[following as usize % SOON] != 0 {
+                return following;
+            }
+        }
+        until
+    }
+
+    // It is kept which packets come to be due in the cycles behind this one.
+    fn keep_all(&mut self, cycle: u32)
+        ensures rest { self.new
+            ≡ record self.old { soon = self.new.soon; until = self.new.until } }
+        ensures known { AreKnown cycle self.new }
+    {
+        self.soon = [0; SOON];
+        self.until = cycle.saturating_add(SOON as u32);
+        for r in 0..ROUTERS {
+            self.keep(cycle, r, self.at[r]);
+        }
+    }
+
+    // It is kept that the packet of a router is due in a cycle, if that is one of the cycles
+    // behind this one that are known.
+    #[inline(always)]
+    fn keep(&mut self, cycle: u32, router: usize, when: u32)
+        requires { router < ROUTERS }
+        ensures rest { self.new ≡ record self.old { soon = self.new.soon } }
+        ensures soon { self.old.until ≤ cycle + SOON → (r t : ℕ) → cycle < t
+            → t < self.old.until → has_bit (come_in self.new t) r
+            ≡ ((nat_eq t when && nat_eq r router) || has_bit (come_in self.old t) r) }
+    {
+        if cycle < when && when < self.until {
+            let place = when as usize % SOON;
+            self.soon[place] = with_router(self.soon[place], router, true);
         }
     }
 
@@ -61,6 +139,7 @@ impl Due {
         self.at[router] = when;
         self.ready = less(self.ready, alone_if(cycle < when, router));
         self.next = self.next.min(if_later(cycle, when));
+        self.keep(cycle, router, when);
     }
 }
 

@@ -1,8 +1,7 @@
 //! What output channels the input channels of a block are granted.
 
-ghost use Rattle.std.specs.Prelude.{◌≡◌, ◌<◌, ◌≤◌, ◌+◌, ◌*◌, ◌&&◌, ◌||◌, ℕ, nat_eq, false, if◌then◌else◌};
-ghost use Rattle.noc_columns.specs.Given.{AreAllGiven, AreGiven};
-ghost use Rattle.noc_columns.specs.Supply.{digits_by, number_in};
+ghost use Rattle.std.specs.Prelude.{◌≡◌, ◌<◌, ◌≤◌, ◌+◌, ◌*◌, ◌&&◌, ◌||◌, ℕ, nat_eq};
+ghost use Rattle.noc_columns.specs.Given.{AreAllGiven, AreGiven, IsNumberPut, MayPut};
 ghost use Rattle.noc_columns.specs.Prelude.{CHANNELS, ROUTERS, has_bit, word};
 
 use crate::sets::CHANNELS;
@@ -57,22 +56,11 @@ impl Grants {
     // and virtual channel.
     #[inline(always)]
     pub(crate) fn put(&mut self, index: usize, router: usize, port: usize, vc: usize)
-        requires index { index < CHANNELS }
-        requires router { router < ROUTERS }
-        requires port { port < NUMBERS }
-        requires vc { vc < NUMBERS }
-        requires free { has_bit (word index self.old.granted) router ≡ false }
-        requires room { self.old.count < ROUTERS * CHANNELS }
+        requires { MayPut index router port vc self.old.granted self.old.count }
         ensures granted { (k r : ℕ) → has_bit (word k self.new.granted) r
             ≡ ((nat_eq k index && nat_eq r router) || has_bit (word k self.old.granted) r) }
-        ensures port { (k r : ℕ) → number_in (digits_by (word k) self.new.sends.port) r
-            ≡ (if nat_eq k index && nat_eq r router
-            then port
-            else number_in (digits_by (word k) self.old.sends.port) r) }
-        ensures vc { (k r : ℕ) → number_in (digits_by (word k) self.new.sends.vc) r
-            ≡ (if nat_eq k index && nat_eq r router
-            then vc
-            else number_in (digits_by (word k) self.old.sends.vc) r) }
+        ensures port { IsNumberPut index router port self.old.sends.port self.new.sends.port }
+        ensures vc { IsNumberPut index router vc self.old.sends.vc self.new.sends.vc }
         ensures count { self.new.count ≡ self.old.count + 1 }
     {
         self.given[self.count] = Grant {

@@ -1,6 +1,6 @@
 //! What the sources inject into the local channels.
 
-ghost use Rattle.std.specs.Prelude.{◌≡◌, ◌⊎◌, ◌+◌, ◌<◌, ◌≤◌, ℕ, bit_and, bit_or, nat_eq, nat_le, not, if◌then◌else◌};
+ghost use Rattle.std.specs.Prelude.{◌≡◌, ◌⊎◌, ◌+◌, ◌<◌, ◌≤◌, ℕ, bit_and, bit_or, nat_eq, nat_le, not, slice_index, if◌then◌else◌};
 ghost use Rattle.noc_sets.specs.Column.{Column};
 ghost use Rattle.noc_sets.specs.Passes.{lane_begins, lane_free, lane_injected};
 ghost use Rattle.noc_sets.specs.Planes.{any_from, wrong_from};
@@ -11,9 +11,10 @@ ghost use Rattle.noc_columns.specs.Prelude.{all_of, has_bit, less, lowest, port_
 
 use crate::channels::{Inputs, Links};
 use crate::frame::Frame;
+use crate::over_links::put_four;
 use crate::planes::less;
 use crate::ports::Ports;
-use crate::words::Words;
+use crate::words::{GROUP, WORDS, Words};
 
 /// What the sources do with the local channels.
 #[derive(Drop)]
@@ -151,10 +152,12 @@ fn some_of(local: &Ports, words: &Words) -> u64
 }
 
 /// What is injected comes to the local channels. In these routers it is the last flit of its
-/// packet, whose channel injects no more.
+/// packet, whose channel injects no more. (Four words are taken at a time, so up to three behind
+/// those of the local channels are written too.)
 #[inline(always)]
 pub fn bring(local: &Ports, last: u64, injection: &mut Injection<Words>, came: &mut Links<Words>)
-    requires { local.now.width ≡ 1 }
+    requires width { local.now.width ≡ 1 }
+    requires room { local.now.first + local.now.vcs + GROUP ≤ WORDS }
     ensures flits { (r : ℕ) → set_of (port_at local.now 0) r came.new.flits
         ≡ bit_or (set_of (port_at local.now 0) r injection.old.went)
         (set_of (port_at local.now 0) r injection.old.begun) }
@@ -166,19 +169,74 @@ pub fn bring(local: &Ports, last: u64, injection: &mut Injection<Words>, came: &
         (set_of (port_at local.now 0) r came.new.tails) }
     ensures rest { injection.new
         ≡ record injection.old { injecting = injection.new.injecting } }
-    ensures others { (k : ℕ)
-        → (k < local.now.first) ⊎ (local.now.first + local.now.vcs ≤ k)
+    ensures links { (k : ℕ) → k < local.now.first
         → (word k came.new.flits ≡ word k came.old.flits)
         × (word k came.new.tails ≡ word k came.old.tails) }
     ensures credits { came.new.credits ≡ came.old.credits }
 {
-    let first = local.first;
-    for v in 0..local.vcs {
-        let i = first + v;
-        let flits = injection.went[i] | injection.begun[i];
-        let tails = flits & last;
-        came.flits[i] = flits;
-        came.tails[i] = tails;
-        injection.injecting[i] = less(injection.injecting[i] | injection.begun[i], tails);
+    for g in 0..(local.vcs + GROUP - 1) / GROUP {
+        bring_four(local.first + GROUP * g, last, injection, came);
     }
+}
+
+// What is injected comes to four channels, whose words begin here.
+#[inline(always)]
+fn bring_four(at: usize, last: u64, injection: &mut Injection<Words>, came: &mut Links<Words>)
+    requires { at + GROUP ≤ WORDS }
+    ensures flits { (j : ℕ) → j < GROUP → word (at + j) came.new.flits
+        ≡ bit_or (word (at + j) injection.old.went) (word (at + j) injection.old.begun) }
+    ensures tails { (j : ℕ) → j < GROUP
+        → word (at + j) came.new.tails ≡ bit_and (word (at + j) came.new.flits) last }
+    ensures injecting { (j : ℕ) → j < GROUP → word (at + j) injection.new.injecting
+        ≡ less (bit_or (word (at + j) injection.old.injecting) (word (at + j) injection.old.begun))
+        (word (at + j) came.new.tails) }
+    ensures others { (k : ℕ) → (k < at) ⊎ (at + GROUP ≤ k)
+        → (word k came.new.flits ≡ word k came.old.flits)
+        × (word k came.new.tails ≡ word k came.old.tails)
+        × (word k injection.new.injecting ≡ word k injection.old.injecting) }
+    ensures rest { injection.new
+        ≡ record injection.old { injecting = injection.new.injecting } }
+    ensures credits { came.new.credits ≡ came.old.credits }
+{
+    let four = brought_four(at, last, injection);
+    put_four(&mut came.flits, at, &four.flits);
+    put_four(&mut came.tails, at, &four.tails);
+    put_four(&mut injection.injecting, at, &four.injecting);
+}
+
+// What comes to four channels, and which of them still inject.
+#[derive(Drop)]
+struct Brought {
+    flits: [u64; GROUP],
+    tails: [u64; GROUP],
+    injecting: [u64; GROUP],
+}
+
+// What is injected into four channels, whose words begin here.
+#[inline(always)]
+fn brought_four(at: usize, last: u64, injection: &Injection<Words>) -> Brought
+    requires { at + GROUP ≤ WORDS }
+    ensures flits { (j : ℕ) → j < GROUP → slice_index result.flits j
+        ≡ bit_or (word (at + j) injection.now.went) (word (at + j) injection.now.begun) }
+    ensures tails { (j : ℕ) → j < GROUP
+        → slice_index result.tails j ≡ bit_and (slice_index result.flits j) last }
+    ensures injecting { (j : ℕ) → j < GROUP → slice_index result.injecting j
+        ≡ less (bit_or (word (at + j) injection.now.injecting) (word (at + j) injection.now.begun))
+        (slice_index result.tails j) }
+{
+    let mut four = Brought {
+        flits: [0; GROUP],
+        tails: [0; GROUP],
+        injecting: [0; GROUP],
+    };
+    for j in 0..GROUP {
+        let i = at + j;
+        let begun = injection.begun[i];
+        let flits = injection.went[i] | begun;
+        let tails = flits & last;
+        four.flits[j] = flits;
+        four.tails[j] = tails;
+        four.injecting[j] = less(injection.injecting[i] | begun, tails);
+    }
+    four
 }

@@ -40,12 +40,11 @@ mod switch;
 mod words;
 
 pub use allocation::allocate;
-pub use asks::{Asks, ask_all};
 pub use by_router::add_links;
 pub use channel_table::ChannelTable;
 pub use channels::{Decided, Inputs, Links, Outputs, Returned, Standing, Verdicts};
 pub use credits::take_credits;
-pub use due::{Due, NEVER};
+pub use due::{Due, NEVER, SOON};
 pub use effects::{Moves, settle};
 pub use ejection::give_back;
 pub use flits::land;
@@ -64,23 +63,18 @@ pub use laws::{
     what_leaves_gives_its_channel_back,
 };
 pub use left::Left;
-pub use marks::Marks;
+pub use marks::{Marks, REQUESTS};
 pub use neighbours::{Far, Near, Neighbours};
 pub use over_links::{gather, gather_far, opposite};
 pub use payments::pay;
-pub use picks::{Candidates, Picks, any_both, pick, pick_each};
-pub use places::{far_of, near_of};
+pub use picks::{Candidates, Picks, pick};
+pub use places::{far_of, write_near};
 pub use planes::{Planes, less};
 pub use ports::{PORTS, Ports, RouterPorts};
 pub use routes::{Guide, route};
-pub use sets::{
-    CHANNELS, but_lowest, first_in_turn, least, least_or_any, lowest, past, where_some,
-};
+pub use sets::{CHANNELS, but_lowest, least};
 pub use sources::Sources;
 pub use starts::Start;
 pub use supply::{Digits, NUMBERS, Sends, look_up};
 pub use switch::{Switch, traverse};
-pub use words::{
-    GROUP, ROUTERS, WORDS, Words, alone_if, bit, clear_first, put, put_router, used_words,
-    with_router,
-};
+pub use words::{GROUP, ROUTERS, WORDS, Words, alone_if, bit, clear_first, used_words};

@@ -7,6 +7,9 @@ ghost use Rattle.noc_columns.specs.Prelude.{CHANNELS, ROUTERS, has_bit};
 use crate::sets::{CHANNELS, where_some};
 use crate::words::{ROUTERS, with_router};
 
+/// How many words the requests of a router take.
+pub const REQUESTS: usize = CHANNELS + 1;
+
 /// What the routers of a block keep of their channels.
 #[derive(Drop)]
 pub struct Marks {
@@ -23,8 +26,8 @@ pub struct Marks {
     /// By router and output channel, the input channels at or after the pointer of its arbiter.
     pub turns: [[u64; CHANNELS]; ROUTERS],
     /// By output channel, the input channels of a router that ask for it. None is left from one
-    /// router to the next.
-    pub requests: [u64; CHANNELS],
+    /// router to the next. Behind them stand those that ask for none.
+    pub requests: [u64; REQUESTS],
     ghost unasked: { (o : ℕ) → o < CHANNELS → slice_index requests o ≡ 0 },
     ghost asks: { (r : ℕ) → r < ROUTERS → has_bit asking r
         ≡ not (nat_eq (asks_of (slice_index waiting r) (slice_index wanted r) (slice_index idle r))

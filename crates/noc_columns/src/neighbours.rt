@@ -1,6 +1,6 @@
 //! Where the neighbours of the routers of a block stand.
 
-ghost use Rattle.std.specs.Prelude.{◌<◌, ℕ, slice_index};
+ghost use Rattle.std.specs.Prelude.{◌≡◌, ◌<◌, ◌-◌, ◌%◌, ℕ, slice_index};
 ghost use Rattle.noc_columns.specs.declared.words.TheConstants.{ROUTERS};
 
 use crate::words::Words;
@@ -10,9 +10,13 @@ use crate::words::Words;
 pub struct Neighbours {
     /// How far, by link channel: 0 to 63.
     pub distance: Words,
+    /// How far back to them, around the other end, by link channel: 0 to 63.
+    pub back: Words,
     /// The routers whose neighbour stands there.
     pub mask: Words,
     ghost near: { (k : ℕ) → slice_index distance k < ROUTERS },
+    ghost turn: { (k : ℕ)
+        → slice_index back k ≡ (ROUTERS - slice_index distance k) % ROUTERS },
 }
 
 /// The neighbours of the routers of a block that stand in it. In each direction they stand at one

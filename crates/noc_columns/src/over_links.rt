@@ -1,6 +1,6 @@
 //! What comes over the links: a word of the channel at the other end, turned and masked.
 
-ghost use Rattle.std.specs.Prelude.{◌≡◌, ◌≢◌, ◌⊎◌, ◌<◌, ◌≤◌, ◌+◌, ◌*◌, ◌%◌, ◌&&◌, ◌||◌, ℕ, bit_or, slice_index};
+ghost use Rattle.std.specs.Prelude.{◌≡◌, ◌≢◌, ◌⊎◌, ◌<◌, ◌≤◌, ◌+◌, ◌-◌, ◌*◌, ◌%◌, ◌&&◌, ◌||◌, ℕ, List, bit_or, slice_index};
 ghost use Rattle.noc_topo.specs.Shape.{opposite};
 ghost use Rattle.noc_columns.specs.Channels.{links_by};
 ghost use Rattle.noc_columns.specs.Near.{comes_from, comes_near};
@@ -22,18 +22,16 @@ pub fn gather(frame: &Frame, near: &Near, left: &Links<Words>, came: &mut Links<
     ensures credits { (k r : ℕ) → k < GROUP * frame.now.link_groups → r < ROUTERS
         → has_bit (word k came.new.credits) r ≡ comes_near near.now left.now.credits k r }
 {
-    // (All three stand in one loop. Else the compiler takes the same word of four groups at a time,
-    // and moves words about. And all are read before one is written, so that where neighbours stand
-    // is read once.)
+    // (All three stand in one loop, with one test for rings in it. Else the compiler takes the same
+    // word of four groups at a time, and moves words about. And all are read before one is written,
+    // so that where neighbours stand is read once.)
     let rings = near.rings;
     for g in 0..frame.link_groups {
         let at = GROUP * g;
-        let flits = near_four(near, rings, &left.flits, at);
-        let tails = near_four(near, rings, &left.tails, at);
-        let credits = near_four(near, rings, &left.credits, at);
-        put_four(&mut came.flits, at, &flits);
-        put_four(&mut came.tails, at, &tails);
-        put_four(&mut came.credits, at, &credits);
+        let four = near_four(near, rings, left, at);
+        put_four(&mut came.flits, at, &four.flits);
+        put_four(&mut came.tails, at, &four.tails);
+        put_four(&mut came.credits, at, &four.credits);
     }
 }
 
@@ -63,16 +61,20 @@ pub fn gather_far(links: &Ports, far: &Far, left: &Links<Words>, came: &mut Link
         → ((v : ℕ) → v < links.now.vcs → k ≢ (port_at links.now far.now.port).index v)
         → links_by (word k) came.new ≡ links_by (word k) came.old }
 {
-    // (All three stand in one loop, so that where a channel stands is worked out once.)
+    // (All three stand in one loop, so that where a channel stands is worked out once. Where the
+    // neighbours stand is read before it, since the compiler takes it that what is written may be
+    // just that.)
     let width = links.width;
     let port = far.port;
     let other = opposite(port);
+    let distance = far.distance;
+    let mask = far.mask;
     for v in 0..links.vcs {
         let from = v * width + other;
         let to = v * width + port;
-        join_far(far, &left.flits, from, &mut came.flits, to);
-        join_far(far, &left.tails, from, &mut came.tails, to);
-        join_far(far, &left.credits, from, &mut came.credits, to);
+        join_far(distance, mask, &left.flits, from, &mut came.flits, to);
+        join_far(distance, mask, &left.tails, from, &mut came.tails, to);
+        join_far(distance, mask, &left.credits, from, &mut came.credits, to);
     }
 }
 
@@ -86,26 +88,55 @@ fn opposite_four(from: &Words, at: usize) -> [u64; GROUP]
     [from[at + 1], from[at], from[at + 3], from[at + 2]]
 }
 
-// What comes by four links, of the words of one kind, from neighbours at both distances.
+// What comes by four links from neighbours at both distances.
 #[inline(always)]
-fn near_four(near: &Near, rings: bool, from: &Words, at: usize) -> [u64; GROUP]
+fn near_four(near: &Near, rings: bool, left: &Links<Words>, at: usize) -> Links<[u64; GROUP]>
     requires rings { rings ≡ near.now.rings }
     requires fit { at + GROUP ≤ WORDS }
     requires even { at % 2 ≡ 0 }
     ensures { (j r : ℕ) → j < GROUP → r < ROUTERS
-        → has_bit (slice_index result j) r ≡ comes_near near.now from.now (at + j) r }
+        → links_by (λ (four : List ℕ). has_bit (slice_index four j) r) result
+        ≡ links_by (λ (sent : List ℕ). comes_near near.now sent (at + j) r) left.now }
 {
-    let sent = opposite_four(from, at);
-    let straight = turned_four(&near.straight, &sent, at);
+    let sent = Links {
+        flits: opposite_four(&left.flits, at),
+        tails: opposite_four(&left.tails, at),
+        credits: opposite_four(&left.credits, at),
+    };
+    let straight = turned_links(&near.straight, &sent, at);
     if rings {
-        let round = turned_four(&near.round, &sent, at);
-        join_four(&straight, &round)
+        let round = turned_links(&near.round, &sent, at);
+        Links {
+            flits: join_four(&straight.flits, &round.flits),
+            tails: join_four(&straight.tails, &round.tails),
+            credits: join_four(&straight.credits, &round.credits),
+        }
     } else {
         straight
     }
 }
 
 // What comes by four links from neighbours at one distance.
+#[inline(always)]
+fn turned_links(
+    neighbours: &Neighbours,
+    sent: &Links<[u64; GROUP]>,
+    at: usize,
+) -> Links<[u64; GROUP]>
+    requires { at + GROUP ≤ WORDS }
+    ensures { (j r : ℕ) → j < GROUP → r < ROUTERS
+        → links_by (λ (four : List ℕ). has_bit (slice_index four j) r) result
+        ≡ links_by (λ (four : List ℕ). comes_from (word (at + j) neighbours.now.distance)
+        (word (at + j) neighbours.now.mask) (slice_index four j) r) sent.now }
+{
+    Links {
+        flits: turned_four(neighbours, &sent.flits, at),
+        tails: turned_four(neighbours, &sent.tails, at),
+        credits: turned_four(neighbours, &sent.credits, at),
+    }
+}
+
+// What so comes of the words of one kind.
 #[inline(always)]
 fn turned_four(neighbours: &Neighbours, sent: &[u64; GROUP], at: usize) -> [u64; GROUP]
     requires { at + GROUP ≤ WORDS }
@@ -119,6 +150,7 @@ fn turned_four(neighbours: &Neighbours, sent: &[u64; GROUP], at: usize) -> [u64;
         all[j] = turned(
             sent[j],
             neighbours.distance[at + j],
+            neighbours.back[at + j],
             neighbours.mask[at + j],
         );
     }
@@ -140,7 +172,7 @@ fn join_four(first: &[u64; GROUP], second: &[u64; GROUP]) -> [u64; GROUP]
 
 // Writes four words, from this index on.
 #[inline(always)]
-fn put_four(words: &mut Words, at: usize, four: &[u64; GROUP])
+pub(crate) fn put_four(words: &mut Words, at: usize, four: &[u64; GROUP])
     requires { at + GROUP ≤ WORDS }
     ensures here { (j : ℕ) → j < GROUP → word (at + j) words.new ≡ slice_index four.now j }
     ensures others { (k : ℕ) → (k < at) ⊎ (at + GROUP ≤ k) → word k words.new ≡ word k words.old }
@@ -152,15 +184,16 @@ fn put_four(words: &mut Words, at: usize, four: &[u64; GROUP])
 
 // A word of one kind with the one of a channel at the other end of a link, from another block.
 #[inline(always)]
-fn join_far(far: &Far, from: &Words, other: usize, to: &mut Words, index: usize)
+fn join_far(distance: u64, mask: u64, from: &Words, other: usize, to: &mut Words, index: usize)
+    requires near { distance < ROUTERS }
     requires other { other < WORDS }
     requires index { index < WORDS }
     ensures here { (r : ℕ) → r < ROUTERS → has_bit (word index to.new) r
         ≡ (has_bit (word index to.old) r
-        || comes_from far.now.distance far.now.mask (word other from.now) r) }
+        || comes_from distance mask (word other from.now) r) }
     ensures others { (k : ℕ) → k ≢ index → word k to.new ≡ word k to.old }
 {
-    to[index] = to[index] | turned(from[other], far.distance, far.mask);
+    to[index] = to[index] | turned_alone(from[other], distance, mask);
 }
 
 /// The port at the other end of a link.
@@ -174,11 +207,20 @@ pub fn opposite(port: usize) -> usize
 
 // Each of these routers gets what the one has that stands so far from it.
 #[inline(always)]
-fn turned(word: u64, distance: u64, mask: u64) -> u64
+fn turned_alone(word: u64, distance: u64, mask: u64) -> u64
     requires { distance < ROUTERS }
     ensures { (r : ℕ) → r < ROUTERS → has_bit result r ≡ comes_from distance mask word r }
 {
-    // (Back by one step, and then by the others: a turn at once is done one word at a time.)
-    let back = ROUTERS as u64 - 1 - distance;
-    ((word >> distance) | (word << 1 << back)) & mask
+    word.rotate_right(distance as u32) & mask
+}
+
+// Each of these routers gets what the one has that stands so far from it. (Of four words at a time
+// there is no turn at once, so they go forth and back.)
+#[inline(always)]
+fn turned(word: u64, distance: u64, back: u64, mask: u64) -> u64
+    requires near { distance < ROUTERS }
+    requires back { back ≡ (ROUTERS - distance) % ROUTERS }
+    ensures { (r : ℕ) → r < ROUTERS → has_bit result r ≡ comes_from distance mask word r }
+{
+    ((word >> distance) | (word << back)) & mask
 }

@@ -1,14 +1,15 @@
 //! Each input port picks one of its channels.
 
-ghost use Rattle.std.specs.Prelude.{◌≡◌, ◌⊎◌, ◌<◌, ◌≤◌, ◌+◌, ◌*◌, ◌&&◌, ℕ, true, not, nat_eq, bit_and, bit_or, slice_index};
-ghost use Rattle.noc_columns.specs.Picks.{HavePicked, IsPicked, PicksAll, turn_word};
-ghost use Rattle.noc_columns.specs.Prelude.{has_bit, less, port_at, port_of, set_of, some_below, word};
+ghost use Rattle.std.specs.Prelude.{◌≡◌, ◌⊎◌, ◌<◌, ◌≤◌, ◌+◌, ◌*◌, ◌&&◌, ℕ, true, false, not, nat_eq, bit_and, bit_or, slice_index};
+ghost use Rattle.noc_columns.specs.Picks.{HavePicked, IsPicked, PicksAll, SendByVcs, turn_word};
+ghost use Rattle.noc_columns.specs.Supply.{digits_by, number_in};
+ghost use Rattle.noc_columns.specs.Prelude.{ROUTERS, has_bit, less, port_at, port_of, set_of, some_below, word};
 
 use crate::by_port::write_side;
 use crate::channels::{Decided, Standing};
 use crate::planes::less;
 use crate::ports::{PORTS, Ports, RouterPorts};
-use crate::supply::{Digits, Sends};
+use crate::supply::{Digits, NUMBERS, Sends};
 use crate::words::Words;
 
 /// What the picked channel of each input port has, with a word of each port.
@@ -36,85 +37,140 @@ pub struct Candidates<'a> {
 }
 
 /// Of the ready channels of each input port one is picked, the first from the pointer on and
-/// around. The answer is what these channels have. So many are link ports: as a const parameter,
-/// so that loops over them are unrolled. (What calls this is not to grow by it, or the compiler
-/// takes one word at a time.)
+/// around. What these channels have is written where it stands, since an answer of several branches
+/// would be cleared first. So many are link ports: as a const parameter, so that loops over them
+/// are unrolled. (What calls this is not to grow by it, or the compiler takes one word at a time.)
 #[inline(never)]
 pub fn pick<const WIDTH: usize>(
     ports: &RouterPorts,
     candidates: &Candidates<'_>,
     decided: &mut Decided<Words>,
-) -> Picks
-    requires { WIDTH ≡ ports.now.links.width }
+    picks: &mut Picks,
+)
+    requires width { WIDTH ≡ ports.now.links.width }
+    requires sends { SendByVcs ports.now candidates.now.standing.now.ready
+        candidates.now.sends.now.vc }
     ensures { PicksAll ports.now candidates.now.standing.now candidates.now.ahead.now
-        candidates.now.sends.now decided.old decided.new result }
+        candidates.now.sends.now decided.old decided.new picks.new }
 {
     let vcs = ports.links.vcs;
     let picked = &mut decided.picked;
     let past = &mut decided.past;
     if vcs == 2 {
-        pick_all(&ports.known(WIDTH, 2), candidates, picked, past)
+        pick_all(&ports.known(WIDTH, 2), candidates, picked, past, picks);
     } else if vcs == 4 {
-        pick_all(&ports.known(WIDTH, 4), candidates, picked, past)
+        pick_all(&ports.known(WIDTH, 4), candidates, picked, past, picks);
     } else if vcs == 8 {
-        pick_all(&ports.known(WIDTH, 8), candidates, picked, past)
+        pick_all(&ports.known(WIDTH, 8), candidates, picked, past, picks);
     } else {
-        pick_all(&ports.known(WIDTH, vcs), candidates, picked, past)
+        pick_all(&ports.known(WIDTH, vcs), candidates, picked, past, picks);
     }
 }
 
-// Of the ready channels of each input port one is picked.
+// Of the ready channels of each input port one is picked, and what these have is written.
 #[inline(always)]
 fn pick_all(
     ports: &RouterPorts,
     candidates: &Candidates<'_>,
     picked: &mut Words,
     past: &mut Words,
-) -> Picks
+    picks: &mut Picks,
+)
+    requires { SendByVcs ports.now candidates.now.standing.now.ready candidates.now.sends.now.vc }
     ensures { (r : ℕ) → HavePicked ports.now r candidates.now.standing.now.ready
         candidates.now.ahead.now picked.new past.new candidates.now.standing.now.last
-        candidates.now.sends.now result }
+        candidates.now.sends.now picks.new }
 {
     let standing = candidates.standing;
     let sends = candidates.sends;
     let any = pick_each(ports, &standing.ready, candidates.ahead, picked, past);
-    Picks {
-        any,
-        tail: any_both(ports, picked, &standing.last),
-        port: numbers(ports, picked, &sends.port),
-        vc: numbers(ports, picked, &sends.vc),
-    }
+    write_ports(ports.links.width + 1, &any, &mut picks.any);
+    write_both(ports, picked, &standing.last, &mut picks.tail);
+    write_numbers(ports, NUMBERS, picked, &sends.port, &mut picks.port);
+    write_numbers(ports, ports.links.vcs, picked, &sends.vc, &mut picks.vc);
 }
 
-// By port the numbers of the channels of a set that has one of each port at most.
+// By port the numbers of the channels of a set that has one of each port at most. These are below
+// so many. (The third digit is written first. The compiler joins branches of `pick` that end with
+// it, which costs.)
 #[inline(always)]
-fn numbers(ports: &RouterPorts, set: &Words, of: &Digits<Words>) -> Digits<[u64; PORTS]>
+fn write_numbers(
+    ports: &RouterPorts,
+    below: usize,
+    set: &Words,
+    of: &Digits<Words>,
+    numbers: &mut Digits<[u64; PORTS]>,
+)
+    requires { (p c r : ℕ) → p < ports.now.links.width + 1 → c < ports.now.links.vcs → r < ROUTERS
+        → has_bit (word ((port_of ports.now p).index c) set.now) r ≡ true
+        → number_in (digits_by (word ((port_of ports.now p).index c)) of.now) r < below }
     ensures ones { (p r : ℕ) → p < ports.now.links.width + 1
-        → has_bit (slice_index result.ones p) r
+        → has_bit (slice_index numbers.new.ones p) r
         ≡ some_below ports.now.links.vcs
         (λ c. has_bit (word ((port_of ports.now p).index c) set.now) r
         && has_bit (word ((port_of ports.now p).index c) of.now.ones) r) }
     ensures twos { (p r : ℕ) → p < ports.now.links.width + 1
-        → has_bit (slice_index result.twos p) r
+        → has_bit (slice_index numbers.new.twos p) r
         ≡ some_below ports.now.links.vcs
         (λ c. has_bit (word ((port_of ports.now p).index c) set.now) r
         && has_bit (word ((port_of ports.now p).index c) of.now.twos) r) }
     ensures fours { (p r : ℕ) → p < ports.now.links.width + 1
-        → has_bit (slice_index result.fours p) r
+        → has_bit (slice_index numbers.new.fours p) r
         ≡ some_below ports.now.links.vcs
         (λ c. has_bit (word ((port_of ports.now p).index c) set.now) r
         && has_bit (word ((port_of ports.now p).index c) of.now.fours) r) }
 {
-    Digits {
-        ones: any_both(ports, set, &of.ones),
-        twos: any_both(ports, set, &of.twos),
-        fours: any_both(ports, set, &of.fours),
+    write_fours(ports, below, set, &of.fours, &mut numbers.fours);
+    write_both(ports, set, &of.ones, &mut numbers.ones);
+    write_both(ports, set, &of.twos, &mut numbers.twos);
+}
+
+// Their third digit. (Of at most four numbers none has it, so no word is read.)
+#[inline(always)]
+fn write_fours(ports: &RouterPorts, below: usize, set: &Words, of: &Words, fours: &mut [u64; PORTS])
+    requires { below ≤ 4 → (p c r : ℕ) → p < ports.now.links.width + 1 → c < ports.now.links.vcs
+        → r < ROUTERS → has_bit (word ((port_of ports.now p).index c) set.now) r ≡ true
+        → has_bit (word ((port_of ports.now p).index c) of.now) r ≡ false }
+    ensures { (p r : ℕ) → p < ports.now.links.width + 1
+        → has_bit (slice_index fours.new p) r
+        ≡ some_below ports.now.links.vcs
+        (λ c. has_bit (word ((port_of ports.now p).index c) set.now) r
+        && has_bit (word ((port_of ports.now p).index c) of.now) r) }
+{
+    if below <= 4 {
+        write_ports(ports.links.width + 1, &[0; PORTS], fours);
+    } else {
+        write_both(ports, set, of, fours);
+    }
+}
+
+// By port the routers of which a channel is in both of two sets.
+#[inline(always)]
+fn write_both(ports: &RouterPorts, first: &Words, second: &Words, both: &mut [u64; PORTS])
+    ensures { (p r : ℕ) → p < ports.now.links.width + 1
+        → has_bit (slice_index both.new p) r
+        ≡ some_below ports.now.links.vcs
+        (λ c. has_bit (word ((port_of ports.now p).index c) first.now) r
+        && has_bit (word ((port_of ports.now p).index c) second.now) r) }
+{
+    let any = any_both(ports, first, second);
+    write_ports(ports.links.width + 1, &any, both);
+}
+
+// Writes the words of so many ports. (Those that a router does not have are not written.)
+#[inline(always)]
+fn write_ports(ports: usize, by_port: &[u64; PORTS], to: &mut [u64; PORTS])
+    requires { ports ≤ PORTS }
+    ensures { (p : ℕ) → p < ports → slice_index to.new p ≡ slice_index by_port.now p }
+{
+    for p in 0..ports {
+        to[p] = by_port[p];
     }
 }
 
 /// By port the routers of which a channel is in both of two sets.
 #[inline(always)]
-pub fn any_both(ports: &RouterPorts, first: &Words, second: &Words) -> [u64; PORTS]
+pub(crate) fn any_both(ports: &RouterPorts, first: &Words, second: &Words) -> [u64; PORTS]
     ensures { (p r : ℕ) → p < ports.now.links.width + 1
         → has_bit (slice_index result p) r
         ≡ some_below ports.now.links.vcs
@@ -130,7 +186,7 @@ pub fn any_both(ports: &RouterPorts, first: &Words, second: &Words) -> [u64; POR
 /// Of the ready channels of each port one is picked, the first from the pointer on and around. The
 /// answer is by port the routers in which one is picked.
 #[inline(always)]
-pub fn pick_each(
+pub(crate) fn pick_each(
     ports: &RouterPorts,
     ready: &Words,
     ahead: &Words,

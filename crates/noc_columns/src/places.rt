@@ -13,21 +13,16 @@ use noc_packet::{MAX_CHANNELS, Memory};
 use noc_topo::{Kind, MAX_NODES, MAX_RADIX, Shape};
 use std::alloc::Global;
 
-/// The neighbours of the routers of a block that stand in it, where each port has so many virtual
-/// channels.
-pub fn near_of(shape: &Shape, vcs: usize, block: usize) -> Near
+/// Writes the neighbours of the routers of a block that stand in it, where each port has so many
+/// virtual channels.
+pub fn write_near(shape: &Shape, vcs: usize, block: usize, near: &mut Near)
     requires vcs { vcs ≤ MAX_CHANNELS }
     requires block { ROUTERS * block < nodes shape.now }
-    ensures { IsNear shape.now vcs block result }
+    ensures { IsNear shape.now vcs block near.new }
 {
-    let mut near = Near {
-        straight: NO_NEIGHBOURS,
-        rings: shape.kind() == Kind::Torus,
-        round: NO_NEIGHBOURS,
-    };
+    near.rings = shape.kind() == Kind::Torus;
     write_neighbours(shape, vcs, block, false, &mut near.straight);
     write_neighbours(shape, vcs, block, true, &mut near.round);
-    near
 }
 
 // Writes the neighbours one step on, or those round at the other ends of their lines.
@@ -45,16 +40,12 @@ fn write_neighbours(
     let links = shape.ports() - 1;
     neighbours.mask = [0; WORDS];
     for k in 0..vcs * links {
-        neighbours.distance[k] = distance_by(shape, k % links, round);
+        let distance = distance_by(shape, k % links, round);
+        neighbours.distance[k] = distance;
+        neighbours.back[k] = (ROUTERS as u64 - distance) % ROUTERS as u64;
         neighbours.mask[k] = mask_of(shape, block, k % links, round, block);
     }
 }
-
-// No neighbours.
-const NO_NEIGHBOURS: Neighbours = Neighbours {
-    distance: [0; WORDS],
-    mask: [0; WORDS],
-};
 
 /// The neighbours of the routers of a block by one port that stand in other blocks.
 pub fn far_of(alloc: Global, shape: &Shape, block: usize, port: usize) -> Result<Vec<Far>, Memory>

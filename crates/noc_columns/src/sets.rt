@@ -1,6 +1,6 @@
 //! Sets of channels of one router: their least members.
 
-ghost use Rattle.std.specs.Prelude.{◌≡◌, ◌^◌, ◌<◌, ℕ, Some, nat_eq, nat_lt, if◌then◌else◌};
+ghost use Rattle.std.specs.Prelude.{◌≡◌, ◌^◌, ◌<◌, ◌≤◌, ℕ, Some, nat_eq, nat_lt, if◌then◌else◌};
 ghost use Rattle.noc_packet.specs.Set.{IsLeast};
 ghost use Rattle.noc_sets.specs.Turns.{first_bit};
 ghost use Rattle.noc_columns.specs.Prelude.{has_bit, less, lowest};
@@ -20,18 +20,19 @@ pub fn least(set: u64) -> usize
     set.trailing_zeros() as usize
 }
 
-/// The least member of a set that has one, and of one that has none any channel.
+/// The least member of a set that has one, and of one that has none the number behind all channels.
 #[inline(always)]
-pub fn least_or_any(set: u64) -> usize
-    ensures within { result < CHANNELS }
+pub(crate) fn least_or_past(set: u64) -> usize
+    ensures within { result ≤ CHANNELS }
     ensures least { 0 < set → IsLeast (has_bit set) (Some result) }
+    ensures past { set ≡ 0 → result ≡ CHANNELS }
 {
-    set.trailing_zeros() as usize % CHANNELS
+    set.trailing_zeros() as usize
 }
 
 /// The least member alone, if there is one.
 #[inline(always)]
-pub fn lowest(set: u64) -> u64
+pub(crate) fn lowest(set: u64) -> u64
     ensures { result ≡ lowest set }
 {
     if set == 0 { 0 } else { less(set, set - 1) }
@@ -49,7 +50,7 @@ pub fn but_lowest(set: u64) -> u64
 
 /// A word where a set has a member, and else 0.
 #[inline(always)]
-pub fn where_some(set: u64, word: u64) -> u64
+pub(crate) fn where_some(set: u64, word: u64) -> u64
     ensures { result ≡ (if nat_eq set 0 then 0 else word) }
 {
     if set == 0 { 0 } else { word }
@@ -57,7 +58,7 @@ pub fn where_some(set: u64, word: u64) -> u64
 
 /// The first of some requests, from the pointer of an arbiter on, and around.
 #[inline(always)]
-pub fn first_in_turn(requests: u64, after: u64) -> u64
+pub(crate) fn first_in_turn(requests: u64, after: u64) -> u64
     requires { 0 < requests }
     ensures { result ≡ first_bit requests after }
 {
@@ -68,7 +69,7 @@ pub fn first_in_turn(requests: u64, after: u64) -> u64
 
 /// The channels after the one that a set has.
 #[inline(always)]
-pub fn past(set: u64) -> u64
+pub(crate) fn past(set: u64) -> u64
     requires { 0 < set }
     ensures { (k i : ℕ) → set ≡ 2 ^ k → i < CHANNELS → has_bit result i ≡ nat_lt k i }
 {

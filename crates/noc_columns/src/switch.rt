@@ -1,11 +1,11 @@
 //! What is picked goes through the switch: each output port takes one of the input ports that ask
 //! for it.
 
-ghost use Rattle.std.specs.Prelude.{◌≡◌, ◌⊎◌, ◌<◌, ◌≤◌, ◌+◌, ◌*◌, ◌&&◌, ℕ, true, not, nat_eq, bit_and, bit_or, slice_index, if◌then◌else◌};
+ghost use Rattle.std.specs.Prelude.{◌≡◌, ◌⊎◌, ◌<◌, ◌≤◌, ◌+◌, ◌*◌, ◌&&◌, ℕ, true, false, not, nat_eq, bit_and, bit_or, slice_index, if◌then◌else◌};
 ghost use Rattle.noc_sets.specs.Turns.{in_turn};
 ghost use Rattle.noc_columns.specs.Supply.{digits_by, number_in};
-ghost use Rattle.noc_columns.specs.Switch.{Traverses, TraversesAll, asks_for, picks_in, taken_in};
-ghost use Rattle.noc_columns.specs.Prelude.{has_bit, less, output_of, port_at, port_of, set_of, some_below, word};
+ghost use Rattle.noc_columns.specs.Switch.{PickVcs, Traverses, TraversesAll, asks_for, picks_in, taken_in};
+ghost use Rattle.noc_columns.specs.Prelude.{ROUTERS, has_bit, less, output_of, port_at, port_of, set_of, some_below, word};
 
 use crate::channels::{Decided, Links};
 use crate::picks::{Picks, pick_each};
@@ -47,7 +47,8 @@ pub fn traverse<const WIDTH: usize>(
     decided: &mut Decided<Words>,
     left: &mut Links<Words>,
 )
-    requires { WIDTH ≡ ports.now.links.width }
+    requires width { WIDTH ≡ ports.now.links.width }
+    requires vcs { PickVcs ports.now picks.now }
     ensures { TraversesAll ports.now picks.now switch.old.ahead switch.new.ahead decided.old
         decided.new left.old left.new }
 {
@@ -74,6 +75,7 @@ fn traverse_all(
     sends: &mut Words,
     left: &mut Links<Words>,
 )
+    requires { PickVcs ports.now picks.now }
     ensures traversed { (r : ℕ)
         → Traverses ports.now picks.now ahead.old ahead.new sends.new left.new r }
     ensures left { left.new.credits ≡ left.old.credits }
@@ -85,6 +87,7 @@ fn traverse_all(
 // Each output port takes an input port. The answer is what goes.
 #[inline(always)]
 fn take(ports: &RouterPorts, picks: &Picks, ahead: &mut Words) -> Taken
+    requires { PickVcs ports.now picks.now }
     ensures turns { (r q p : ℕ) → q < ports.now.links.width + 1 → p < ports.now.links.width + 1
         → has_bit (set_of (output_of ports.now q) r ahead.new) p
         ≡ (if nat_eq (asks_for (ports.now.links.width + 1) (picks_in picks.now r) q) 0
@@ -118,7 +121,7 @@ fn take(ports: &RouterPorts, picks: &Picks, ahead: &mut Words) -> Taken
         vc: Digits {
             ones: of_taken(&outputs, &taken, &picks.vc.ones),
             twos: of_taken(&outputs, &taken, &picks.vc.twos),
-            fours: of_taken(&outputs, &taken, &picks.vc.fours),
+            fours: fours_of(&outputs, ports.links.vcs, &taken, &picks.vc.fours),
         },
         sends: senders(&outputs, &taken),
     }
@@ -209,6 +212,31 @@ fn of_taken(outputs: &RouterPorts, taken: &Words, set: &[u64; PORTS]) -> [u64; P
         add_taken(outputs.links.width + 1, &by_output, set[p], &mut all);
     }
     all
+}
+
+// The same of the third digit of numbers below so many. (Of at most four none has it.)
+#[inline(always)]
+fn fours_of(
+    outputs: &RouterPorts,
+    below: usize,
+    taken: &Words,
+    fours: &[u64; PORTS],
+) -> [u64; PORTS]
+    requires { below ≤ 4 → (q p r : ℕ) → q < outputs.now.links.width + 1
+        → p < outputs.now.links.vcs → r < ROUTERS
+        → has_bit (word ((port_of outputs.now q).index p) taken.now) r ≡ true
+        → has_bit (slice_index fours.now p) r ≡ false }
+    ensures { (q r : ℕ) → q < outputs.now.links.width + 1
+        → has_bit (slice_index result q) r
+        ≡ some_below outputs.now.links.vcs
+        (λ p. has_bit (word ((port_of outputs.now q).index p) taken.now) r
+        && has_bit (slice_index fours.now p) r) }
+{
+    if below <= 4 {
+        [0; PORTS]
+    } else {
+        of_taken(outputs, taken, fours)
+    }
 }
 
 // With one input port.

@@ -22,7 +22,7 @@ pub type Words = [u64; WORDS];
 
 /// Writes the word with an index.
 #[inline(always)]
-pub fn put(words: &mut Words, index: usize, word: u64)
+pub(crate) fn put(words: &mut Words, index: usize, word: u64)
     requires { index < WORDS }
     ensures here { slice_index words.new index ≡ word }
     ensures others { (k : ℕ) → k ≢ index → slice_index words.new k ≡ slice_index words.old k }
@@ -43,7 +43,7 @@ pub fn clear_first<const COUNT: usize>(words: &mut Words)
 
 /// Puts a router into the word with an index.
 #[inline(always)]
-pub fn put_router(words: &mut Words, index: usize, router: usize)
+pub(crate) fn put_router(words: &mut Words, index: usize, router: usize)
     requires index { index < WORDS }
     requires router { router < ROUTERS }
     ensures { (k r : ℕ) → has_bit (word k words.new) r
@@ -54,7 +54,7 @@ pub fn put_router(words: &mut Words, index: usize, router: usize)
 
 /// These routers with one of them in or out.
 #[inline(always)]
-pub fn with_router(routers: u64, router: usize, inside: bool) -> u64
+pub(crate) fn with_router(routers: u64, router: usize, inside: bool) -> u64
     requires { router < ROUTERS }
     ensures { (r : ℕ) → has_bit result r
         ≡ (if nat_eq r router then inside else has_bit routers r) }

@@ -106,7 +106,7 @@ module _ (cycles : ℕ) (row : List ℕ) (old now : Count) (noted : HasNoted (cy
 
 -- ---- sixteen cycles are added
 module _ (times : ℕ) (c : Count) (low : Low (List ℕ)) (carry : List ℕ) (length-is : length c.carried ≡ 4)
-    (carries : (j r : ℕ) → j < 36 → low_at low j r + 16 * one_if (has_bit (word j carry) r) ≡ low_at c.low j r + noted_in c 16 j r) where
+    (carries : (j r : ℕ) → j < 32 → low_at low j r + 16 * one_if (has_bit (word j carry) r) ≡ low_at c.low j r + noted_in c 16 j r) where
   carried-sum : (j r : ℕ) → set_sum (set c.carried (times % 4) carry) (times % 4 + 1) j r ≡ set_sum c.carried (times % 4) j r + one_if (has_bit (word j carry) r)
   carried-sum j r = set-with c.carried carry (times % 4) j r (omega (arith, length-is))
 
@@ -126,7 +126,7 @@ module _ (times : ℕ) (c : Count) (low : Low (List ℕ)) (carry : List ℕ) (le
 
   -- and where it is added too
   pub added-whole : (tally : Tally) → times % 4 ≡ 3
-      → (times / 4 + 1 < 2 ^ 30 → (j r : ℕ) → j < 36 → counted_at tally (times / 4 + 1) j r
+      → (times / 4 + 1 < 2 ^ 30 → (j r : ℕ) → j < 32 → counted_at tally (times / 4 + 1) j r
       ≡ counted_at c.tally (times / 4) j r + set_sum (set c.carried (times % 4) carry) 4 j r)
       → HasAdded times c (record c { low = low; carried = set c.carried (times % 4) carry; tally = tally })
   added-whole tally full adds = record {

@@ -1,10 +1,9 @@
 -- Group after group, and the counts of a channel out of those of its group.
-use Rattle.std.proofs.Common.{◌≡◌, ◌≢◌, ◌⊎◌, ℕ, ◌+◌, ◌*◌, ◌<◌, ◌≤◌, List, length, set, refl, ap, sym, ◌∙◌, subst, arith, inl, inr, get_or-set_same, get_or-set_other}
+use Rattle.std.proofs.Common.{◌≡◌, ◌≢◌, ◌⊎◌, ℕ, ◌+◌, ◌*◌, ◌<◌, ◌≤◌, List, length, set, refl, ap, ap₂, sym, ◌∙◌, subst, arith, inl, inr, get_or-set_same, get_or-set_other}
 use Rattle.std.proofs.lemmas.Bool.{cases_eq}
 use Rattle.std.proofs.lemmas.List.{length-set}
 use Rattle.noc_packet.specs.Set.{has_bit}
 use Rattle.noc_topo.specs.Lists.{one_if}
-use Rattle.noc_sets.specs.Counts.{RisesOn}
 use Rattle.noc_columns.specs.Words.{Numbering, set_by}
 use Rattle.noc_counts.specs.Counts.{last_at, last_words, no_count, of_group}
 use Rattle.noc_counts.specs.declared.count.Count.{Count}
@@ -38,31 +37,21 @@ module _ (P : ℕ → Count → Count → Type 0) (old : List Count) where
           subst (λ (c : Count). P g (of_group old g) c) (sym (get_or-set_other now i g new no_count other)) (are.done g (omega (arith, l, other)))
 
 -- a count rises on where the last cycle is repeated
-pub rises-on : (n : Numbering) (r i times x y z w : ℕ) (words : ℕ → ℕ) → i < n.size → y ≡ x + one_if (has_bit (set_by n r words) i)
-    → z ≡ y + times * one_if (has_bit w r) → w ≡ words (n.index i) → RisesOn times x y z
-rises-on n r i times x y z w words few once again is = record {
-  by = one_if (has_bit (set_by n r words) i);
-  once = once;
-  again = again ∙ ap (λ b. y + times * one_if b) (ap (λ v. has_bit v r) is ∙ sym (member-by n r i words few));
-}
+pub rises-on : (n : Numbering) (r i times x y z w : ℕ) (words : ℕ → ℕ) → i < n.size → x ≡ y → z ≡ y + times * one_if (has_bit w r) → w ≡ words (n.index i)
+    → x + times * one_if (has_bit (set_by n r words) i) ≡ z
+rises-on n r i times x y z w words few is again one =
+    ap₂ (λ a b. a + times * one_if b) is (member-by n r i words few ∙ sym (ap (λ v. has_bit v r) one)) ∙ sym again
 
 -- and another one stays
-pub stays : (r times y z w : ℕ) → z ≡ y + times * one_if (has_bit w r) → w ≡ 0 → z ≡ y
-stays r times y z w again is =
-    let none = one-none w r is in
-    let e : times * one_if (has_bit w r) ≡ times * 0 = ap (λ m. times * m) none in
-    omega (arith, again, e)
+pub stays : (r times x y z w : ℕ) → x ≡ y → z ≡ y + times * one_if (has_bit w r) → w ≡ 0 → x ≡ z
+stays r times x y z w is again none =
+    let e : times * one_if (has_bit w r) ≡ times * 0 = ap (λ m. times * m) (one-none w r none) in
+    omega (arith, is, again, e)
 
 -- the sets of a router in the last cycle, where the words of that cycle are the same
 pub last-same : (n : Numbering) (r : ℕ) (a b : Counts) → ((j : ℕ) → last_words a j ≡ last_words b j) → last_at n a r ≡ last_at n b r
 last-same n r a b same = λ x. record {
-  routed = set_by n r (λ j. (same j x).routed);
-  granted = set_by n r (λ j. (same j x).granted);
-  moved = set_by n r (λ j. (same j x).moved);
   no_flit = set_by n r (λ j. (same j x).no_flit);
   no_idle_channel = set_by n r (λ j. (same j x).no_idle_channel);
-  lost_channel = set_by n r (λ j. (same j x).lost_channel);
   no_credit = set_by n r (λ j. (same j x).no_credit);
-  lost_input = set_by n r (λ j. (same j x).lost_input);
-  lost_switch = set_by n r (λ j. (same j x).lost_switch);
 }

@@ -82,8 +82,8 @@ chosen-members true set none j k e = refl
 chosen-members false set none j k e = ap (λ w. has_bit w k) e ∙ has_bit-zero k
 
 -- no word has a bit
-pub zero-word : (j : ℕ) → word j (replicate 36 0) ≡ 0
-zero-word j = elim (cases_lt j 36) [ inl l ↦ get_or-replicate 36 j 0 0 l | inr u ↦ get_or_past (replicate 36 0) j 0 (omega (arith, length-replicate {A = ℕ} 36 0, u)) ]
+pub zero-word : (j : ℕ) → word j (replicate 32 0) ≡ 0
+zero-word j = elim (cases_lt j 32) [ inl l ↦ get_or-replicate 32 j 0 0 l | inr u ↦ get_or_past (replicate 32 0) j 0 (omega (arith, length-replicate {A = ℕ} 32 0, u)) ]
 
 -- where one level has what is chosen
 pub chosen-level : (m level j k : ℕ) (set none more : List ℕ) → level < 30 → ((i : ℕ) → word i none ≡ 0) → more ≡ (if has_bit m level then set else none)

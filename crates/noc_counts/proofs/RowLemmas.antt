@@ -27,26 +27,26 @@ is-none x e = at (cases_eq x 0)
     at (inr other) = absurd (false≢true (sym e ∙ ap not (ne_eqb x 0 other)))
 
 -- what is told of the places of a channel
-pub lane-same : (f g : ℕ → ℕ) (l : ℕ) → l < 4 → ((p : ℕ) → p < 36 → f p ≡ g p) → by_lane f l ≡ by_lane g l
+pub lane-same : (f g : ℕ → ℕ) (l : ℕ) → l < 4 → ((p : ℕ) → p < 32 → f p ≡ g p) → by_lane f l ≡ by_lane g l
 lane-same f g l few same =
-    nine-same (same (8 + l) (omega arith)) (same (12 + l) (omega arith)) (same (16 + l) (omega arith)) (same (0 + l) (omega arith)) (same (4 + l) (omega arith))
-    (same (20 + l) (omega arith)) (same (24 + l) (omega arith)) (same (28 + l) (omega arith)) (same (32 + l) (omega arith))
+    nine-same (same (8 + l) (omega arith)) refl (same (12 + l) (omega arith)) (same (0 + l) (omega arith)) (same (4 + l) (omega arith))
+    (same (16 + l) (omega arith)) (same (20 + l) (omega arith)) (same (24 + l) (omega arith)) (same (28 + l) (omega arith))
 
--- the words of a channel of a group are those that are told of it
-pub lane-of : (told : ℕ → ByVerdict) (j : ℕ) → by_lane (λ p. word p (row_of told (j / 4))) (j % 4) ≡ told j
+-- the words of a channel of a group are those that are told of it, but for Granted
+pub lane-of : (told : ℕ → ByVerdict) (j : ℕ) → by_lane (λ p. word p (row_of told (j / 4))) (j % 4) ≡ record (told j) { granted = 0 }
 lane-of told j = at (j % 4) (omega arith) (omega arith)
   where
-    at : (l : ℕ) → l < 4 → j ≡ 4 * (j / 4) + l → by_lane (λ p. word p (row_of told (j / 4))) l ≡ told j
-    at zero few e = ap told (let i : 4 * (j / 4) ≡ j = omega (arith, e) in i)
-    at (suc zero) few e = ap told (let i : 4 * (j / 4) + 1 ≡ j = omega (arith, e) in i)
-    at (suc (suc zero)) few e = ap told (let i : 4 * (j / 4) + 2 ≡ j = omega (arith, e) in i)
-    at (suc (suc (suc zero))) few e = ap told (let i : 4 * (j / 4) + 3 ≡ j = omega (arith, e) in i)
+    at : (l : ℕ) → l < 4 → j ≡ 4 * (j / 4) + l → by_lane (λ p. word p (row_of told (j / 4))) l ≡ record (told j) { granted = 0 }
+    at zero few e = ap (λ (k : ℕ). record (told k) { granted = 0 }) (let i : 4 * (j / 4) ≡ j = omega (arith, e) in i)
+    at (suc zero) few e = ap (λ (k : ℕ). record (told k) { granted = 0 }) (let i : 4 * (j / 4) + 1 ≡ j = omega (arith, e) in i)
+    at (suc (suc zero)) few e = ap (λ (k : ℕ). record (told k) { granted = 0 }) (let i : 4 * (j / 4) + 2 ≡ j = omega (arith, e) in i)
+    at (suc (suc (suc zero))) few e = ap (λ (k : ℕ). record (told k) { granted = 0 }) (let i : 4 * (j / 4) + 3 ≡ j = omega (arith, e) in i)
     at (suc (suc (suc (suc l)))) few e = absurd (omega arith)
 
 -- the words of the three verdicts in which nothing happens
 pub lane-waiting : (row : List ℕ) (l : ℕ) → l < 4
     → by_lane (λ p. word p (waiting_in row)) l
-    ≡ record { routed = 0; granted = 0; moved = 0; no_flit = word (0 + l) row; no_idle_channel = word (4 + l) row; lost_channel = 0; no_credit = word (24 + l) row; lost_input = 0; lost_switch = 0 }
+    ≡ record { routed = 0; granted = 0; moved = 0; no_flit = word (0 + l) row; no_idle_channel = word (4 + l) row; lost_channel = 0; no_credit = word (20 + l) row; lost_input = 0; lost_switch = 0 }
 lane-waiting row zero few = refl
 lane-waiting row (suc zero) few = refl
 lane-waiting row (suc (suc zero)) few = refl

@@ -1,8 +1,9 @@
 -- The verdicts of a router after a cycle, by its words before the cycle takes effect.
-use Rattle.std.proofs.Common.{◌≡◌, ℕ, Bool, true, false, refl, ap, ap₂, sym, ◌∙◌, bit_and, bit_or}
+use Rattle.std.proofs.Common.{◌≡◌, ℕ, ◌+◌, Bool, true, false, refl, ap, ap₂, sym, ◌∙◌, bit_and, bit_or}
 use Rattle.std.specs.Prelude.{◌&&◌, ◌||◌, not}
 use Rattle.std.proofs.lemmas.Bool.{false≢true, true≢false}
 use Rattle.noc_packet.specs.Set.{has_bit}
+use Rattle.noc_topo.specs.Lists.{one_if}
 use Rattle.noc_packet.proofs.SetLemmas.{both_members, either_members}
 use Rattle.noc_sets.specs.Column.{Column}
 use Rattle.noc_sets.specs.Counts.{ByVerdict}
@@ -40,6 +41,14 @@ idle-bits true true l false e = refl
 idle-bits true false l false e = refl
 idle-bits false g l true e = refl
 idle-bits false g l false e = refl
+
+waits-bits : (w g h : Bool) → (g ≡ true → w ≡ true) → (w && h) ≡ false → one_if w + one_if h ≡ one_if g + one_if ((w && not g) || h)
+waits-bits true g true gw e = absurd (true≢false e)
+waits-bits true true false gw e = refl
+waits-bits true false false gw e = refl
+waits-bits false true h gw e = no (gw refl)
+waits-bits false false true gw e = refl
+waits-bits false false false gw e = refl
 
 head-waits : (w a f : Bool) → (w && (f && not (w || a))) ≡ false
 head-waits true a true = refl
@@ -81,6 +90,12 @@ module _ (filled : ℕ) (c : Column) (standing : Standing ℕ) (decided : Decide
   waits-then =
       ap (λ n. has_bit n k) told.waiting_are ∙ either_members (less c.waiting granted) sets.routed k
       ∙ ap (λ b. b || has_bit sets.routed k) (less_members c.waiting granted k)
+
+  -- whoever waits or is a head is granted an output channel or waits then
+  pub waits-on : one_if (has_bit c.waiting k) + one_if (has_bit sets.routed k) ≡ one_if (has_bit granted k) + one_if (has_bit waiting k)
+  waits-on =
+      waits-bits (has_bit c.waiting k) (has_bit granted k) (has_bit sets.routed k) (told.granted_are k) head-apart
+      ∙ ap (λ b. one_if (has_bit granted k) + one_if b) (sym waits-then)
 
   pub idle-is : has_bit sets.no_idle_channel k ≡ (has_bit c.waiting k && not (has_bit granted k || has_bit lost k))
   idle-is =

@@ -55,44 +55,80 @@ no_count = record {
 abbrev pub of_group : List Count → ℕ → Count
 of_group of group = slice_index_or of group no_count
 
--- how often router r had each verdict in word j
+-- how often router r had each verdict in word j, but Granted, which is not counted
 abbrev pub word_counts : Counts → ℕ → ℕ → ByVerdict
 word_counts counts j r =
     by_lane (λ p. count_in (of_group counts.of (j / GROUP)) counts.cycles p r) (j % GROUP)
 
--- how often input channel i of router r had it
-abbrev pub counts_at : Numbering → Counts → ℕ → ℕ → ByVerdict
-counts_at n counts r i = word_counts counts (n.index i) r
+-- it had each of the nine so often in word j, where `waits` is 1 if it waits there now, and else 0.
+-- Who is routed waits until it is granted an output channel
+pub record HasHadIn (counts : Counts) (j r waits : ℕ) (c : ByVerdict) : Type 0 where
+  pub counted : c ≡ record (word_counts counts j r) { granted = c.granted }
+  pub granted : c.routed ≡ c.granted + waits
 
--- the verdicts of word j in the cycle that was counted last
-abbrev pub last_words : Counts → ℕ → ByVerdict
-last_words counts j =
-    by_lane (λ p. word p (last_of (of_group counts.of (j / GROUP)) counts.cycles)) (j % GROUP)
+-- input channel i of router r had each so often
+abbrev pub HasHad : Numbering → Counts → ℕ → ℕ → ℕ → ByVerdict → Type 0
+HasHad n counts r i waits c = HasHadIn counts (n.index i) r waits c
 
--- the sets of verdicts of router r in that cycle
-abbrev pub last_at : Numbering → Counts → ℕ → ByVerdict
-last_at n counts r = record {
-  routed = set_by n r (λ j. (last_words counts j).routed);
-  granted = set_by n r (λ j. (last_words counts j).granted);
-  moved = set_by n r (λ j. (last_words counts j).moved);
-  no_flit = set_by n r (λ j. (last_words counts j).no_flit);
-  no_idle_channel = set_by n r (λ j. (last_words counts j).no_idle_channel);
-  lost_channel = set_by n r (λ j. (last_words counts j).lost_channel);
-  no_credit = set_by n r (λ j. (last_words counts j).no_credit);
-  lost_input = set_by n r (λ j. (last_words counts j).lost_input);
-  lost_switch = set_by n r (λ j. (last_words counts j).lost_switch);
-}
+-- in a cycle with these verdicts channel i, where it waited before or is routed, is granted an
+-- output channel or waits after it
+abbrev pub WaitsOn : ByVerdict → ℕ → ℕ → ℕ → Type 0
+WaitsOn told i before after =
+    before + one_if (has_bit told.routed i) ≡ one_if (has_bit told.granted i) + after
 
 -- nothing was counted
 pub record IsClear (counts : Counts) : Type 0 where
   pub each : (n : Numbering) (r i : ℕ) → IsWithin WORDS n → i < n.size
-      → counts_at n counts r i ≡ no_counts
+      → HasHad n counts r i 0 no_counts
   pub cycles : counted_in counts ≡ 0
 
 -- nor in each of so many blocks
 pub record AreClear (blocks : ℕ) (all : List Counts) : Type 0 where
   pub many : length all ≡ blocks
   pub each : (b : ℕ) (d : Counts) → b < blocks → IsClear (slice_index_or all b d)
+
+-- ---- the last cycle
+-- the channels of a router that wait in a cycle, by what they wait for
+pub record Delays : Type 0 where
+  pub no_flit : ℕ
+  pub no_idle_channel : ℕ
+  pub no_credit : ℕ
+
+-- those that have these verdicts
+abbrev pub delays_of : ByVerdict → Delays
+delays_of told = record {
+  no_flit = told.no_flit;
+  no_idle_channel = told.no_idle_channel;
+  no_credit = told.no_credit;
+}
+
+-- the verdicts of word j in the cycle that was counted last
+abbrev pub last_words : Counts → ℕ → ByVerdict
+last_words counts j =
+    by_lane (λ p. word p (last_of (of_group counts.of (j / GROUP)) counts.cycles)) (j % GROUP)
+
+-- the channels of router r that waited in that cycle
+abbrev pub last_at : Numbering → Counts → ℕ → Delays
+last_at n counts r = record {
+  no_flit = set_by n r (λ j. (last_words counts j).no_flit);
+  no_idle_channel = set_by n r (λ j. (last_words counts j).no_idle_channel);
+  no_credit = set_by n r (λ j. (last_words counts j).no_credit);
+}
+
+-- by these the counts of channel i have risen from x to y
+pub record HasDelayed (delays : Delays) (i : ℕ) (x y : ByVerdict) : Type 0 where
+  pub no_flit : y.no_flit ≡ x.no_flit + one_if (has_bit delays.no_flit i)
+  pub no_idle_channel : y.no_idle_channel
+      ≡ x.no_idle_channel + one_if (has_bit delays.no_idle_channel i)
+  pub no_credit : y.no_credit ≡ x.no_credit + one_if (has_bit delays.no_credit i)
+
+-- the counts of channel i after so many cycles more with these
+abbrev pub with_delays : ℕ → Delays → ℕ → ByVerdict → ByVerdict
+with_delays times delays i c = record c {
+  no_flit = c.no_flit + times * one_if (has_bit delays.no_flit i);
+  no_idle_channel = c.no_idle_channel + times * one_if (has_bit delays.no_idle_channel i);
+  no_credit = c.no_credit + times * one_if (has_bit delays.no_credit i);
+}
 
 -- ---- cycles in which nothing happens
 -- so many cycles more were counted that are like the last of these

@@ -1,10 +1,10 @@
 //! The counts of a block by verdict.
 
 ghost use Rattle.std.specs.Prelude.{◌≡◌, ◌+◌, ◌*◌, ◌%◌, ◌^◌, ◌<◌, ◌≤◌, ℕ, IfOk, sum};
-ghost use Rattle.noc_sets.specs.Counts.{ByVerdict, RunOn, nine_counts, ten_counts, with_verdicts};
-ghost use Rattle.noc_columns.specs.Prelude.{IsWithin, Numbering, channels_of, word};
+ghost use Rattle.noc_sets.specs.Counts.{ByVerdict, nine_counts, ten_counts, with_verdicts};
+ghost use Rattle.noc_columns.specs.Prelude.{IsWithin, Numbering, channels_of, has_bit, one_if, set_of, word};
 ghost use Rattle.noc_counts.specs.Counted.{HasAdded, HasCounted, HasNoted, count_in};
-ghost use Rattle.noc_counts.specs.Counts.{AreClear, AreSmall, HasRepeated, IsClear, counted_in, counts_at, last_at, numbers_of, of_group, word_counts};
+ghost use Rattle.noc_counts.specs.Counts.{AreClear, AreSmall, HasHad, HasHadIn, HasRepeated, IsClear, WaitsOn, counted_in, delays_of, last_at, numbers_of, of_group, with_delays};
 ghost use Rattle.noc_counts.specs.Rows.{row_of};
 ghost use Rattle.noc_counts.specs.Told.{told_at, told_by};
 
@@ -12,29 +12,38 @@ use crate::count::Count;
 use crate::low::SLOTS;
 use crate::nine::Nine;
 use crate::row::{
-    GRANTED, GROUPS, LOST_CHANNEL, LOST_INPUT, LOST_SWITCH, MOVED, NO_CREDIT, NO_FLIT,
-    NO_IDLE_CHANNEL, ROUTED, ROW,
+    GROUPS, LOST_CHANNEL, LOST_INPUT, LOST_SWITCH, MOVED, NO_CREDIT, NO_FLIT, NO_IDLE_CHANNEL,
+    ROUTED, ROW,
 };
-use noc_columns::{ChannelTable, Frame, GROUP, ROUTERS, WORDS};
+use noc_columns::{ChannelTable, Frame, GROUP, ROUTERS, WORDS, bit};
 use noc_cycles::{Block, Work};
 use noc_packet::Memory;
 use noc_times::empty_cycles;
+use noc_view::VERDICTS;
 use std::alloc::Global;
 
-/// How often each input channel of the routers of a block had each verdict.
+/// How often each input channel of the routers of a block had each verdict. (Words begin lines of
+/// the cache in a list that begins 16 bytes behind one: docs/DECISIONS.md#columns.)
 #[derive(Drop)]
 pub struct Counts {
+    // 48 bytes that hold nothing, so that words begin lines of the cache.
+    before: [u64; 6],
     // By group of four channels.
     of: [Count; GROUPS],
     // How many cycles were counted one by one.
     cycles: u32,
+    // Nothing, so that all is a multiple of 64 bytes.
+    behind: u64,
 }
 
-/// No counts of so many blocks. (They are cleared where they stand: those of one take 450 kB.)
+// Room for the counts of so many blocks takes more than 2 MiB, so that the list is mapped by itself.
+const LEAST: usize = 6;
+
+/// No counts of so many blocks. (They are cleared where they stand: those of one take 400 kB.)
 pub fn no_counts(alloc: Global, blocks: usize) -> Result<Vec<Counts>, Memory>
     ensures { IfOk result (λ all. AreClear blocks all.items) }
 {
-    let mut all = Vec::with_capacity(alloc, blocks)?;
+    let mut all = Vec::with_capacity(alloc, blocks.max(LEAST))?;
     for number in 0..blocks {
         all.push(NONE)?;
         all[number].clear();
@@ -44,8 +53,10 @@ pub fn no_counts(alloc: Global, blocks: usize) -> Result<Vec<Counts>, Memory>
 
 // Nothing, which is copied straight to where it stands on the heap.
 const NONE: Counts = Counts {
+    before: [0; 6],
     of: [Count::NONE; GROUPS],
     cycles: 0,
+    behind: 0,
 };
 
 impl Counts {
@@ -60,14 +71,16 @@ impl Counts {
     /// Counts a cycle more, after it has taken effect.
     #[inline(never)]
     pub fn count(&mut self, frame: &Frame, block: &Block, work: &Work)
-        ensures counts { (n : Numbering) (r i : ℕ) → IsWithin (GROUP * frame.now.groups) n
-            → i < n.size → counted_in self.old + 1 < 2 ^ 32
-            → counts_at n self.new r i
-            ≡ with_verdicts (told_at n block.now work.now r) i
-            (counts_at n self.old r i) }
+        ensures counts { (n : Numbering) (r i before after : ℕ) (c : ByVerdict)
+            → IsWithin (GROUP * frame.now.groups) n → i < n.size
+            → counted_in self.old + 1 < 2 ^ 32
+            → WaitsOn (told_at n block.now work.now r) i before after
+            → HasHad n self.old r i before c
+            → HasHad n self.new r i after
+            (with_verdicts (told_at n block.now work.now r) i c) }
         ensures last { (n : Numbering) (r : ℕ) → IsWithin (GROUP * frame.now.groups) n
             → counted_in self.old + 1 < 2 ^ 32
-            → last_at n self.new r ≡ told_at n block.now work.now r }
+            → last_at n self.new r ≡ delays_of (told_at n block.now work.now r) }
         ensures cycles { counted_in self.new ≡ (counted_in self.old + 1) % 2 ^ 32 }
     {
         count_all(frame, block, work, self.cycles, &mut self.of);
@@ -76,50 +89,57 @@ impl Counts {
 
     /// Counts so many cycles more that are like the last one, in which nothing happened.
     pub fn repeat(&mut self, frame: &Frame, times: u32)
-        ensures counts { (n : Numbering) (r i : ℕ) (before : ByVerdict)
+        ensures counts { (n : Numbering) (r i waits : ℕ) (c : ByVerdict)
             → IsWithin (GROUP * frame.now.groups) n → i < n.size
-            → counts_at n self.old r i ≡ with_verdicts (last_at n self.old r) i before
-            → sum (nine_counts (counts_at n self.old r i)) + times < 2 ^ 32
-            → RunOn times before (counts_at n self.old r i) (counts_at n self.new r i) }
+            → sum (nine_counts c) + times < 2 ^ 32
+            → HasHad n self.old r i waits c
+            → HasHad n self.new r i waits (with_delays times (last_at n self.old r) i c) }
         ensures last { (n : Numbering) (r : ℕ) → last_at n self.new r ≡ last_at n self.old r }
         ensures cycles { counted_in self.new ≡ counted_in self.old }
     {
         repeat_all(frame.groups, self.cycles, times, &mut self.of);
     }
 
-    /// How often a channel of a router had each verdict after so many cycles, in the order of the
-    /// stall report.
+    /// How often a channel of a router of this block had each verdict after so many cycles, in the
+    /// order of the stall report.
     pub fn counts_of(
         &self,
         table: &ChannelTable,
+        block: &Block,
         router: usize,
         channel: usize,
         cycles: u32,
-    ) -> [u64; 10]
+    ) -> [u64; VERDICTS]
         requires router { router < ROUTERS }
         requires channel { channel < (table.now.ports.links.width + 1)
             * table.now.ports.links.vcs }
-        ensures { result
-            ≡ ten_counts cycles (counts_at (channels_of table.now.ports) self.now router channel) }
+        ensures { (c : ByVerdict)
+            → HasHad (channels_of table.now.ports) self.now router channel
+            (one_if (has_bit (set_of (channels_of table.now.ports) router block.now.inputs.waiting)
+            channel)) c
+            → result ≡ ten_counts cycles c }
     {
         let index = table.index(channel);
-        let nine = self.totals(index, router);
-        ten(cycles, &nine)
+        let waits = bit(block.inputs.waiting[index], router);
+        let nine = self.totals(index, router, waits);
+        with_empty(cycles, &nine)
     }
 
-    // How often one channel of a router had each of the nine.
-    fn totals(&self, index: usize, router: usize) -> Nine
+    // How often one channel of a router had each of the nine: it waits, where that is 1.
+    fn totals(&self, index: usize, router: usize, waits: u64) -> Nine
         requires index { index < WORDS }
         requires router { router < ROUTERS }
-        ensures counts { numbers_of result ≡ word_counts self.now index router }
+        ensures counts { (c : ByVerdict) → HasHadIn self.now index router waits c
+            → numbers_of result ≡ c }
         ensures small { AreSmall (numbers_of result) }
     {
         let count = &self.of[index / GROUP];
         let lane = index % GROUP;
         let cycles = self.cycles;
+        let routed = count.total(ROUTED + lane, router, cycles);
         Nine {
-            routed: count.total(ROUTED + lane, router, cycles),
-            granted: count.total(GRANTED + lane, router, cycles),
+            routed,
+            granted: routed.saturating_sub(waits),
             moved: count.total(MOVED + lane, router, cycles),
             no_flit: count.total(NO_FLIT + lane, router, cycles),
             no_idle_channel: count.total(NO_IDLE_CHANNEL + lane, router, cycles),
@@ -191,23 +211,12 @@ fn repeat_all(groups: usize, cycles: u32, times: u32, of: &mut [Count; GROUPS])
 }
 
 // All ten after so many cycles: Empty in those in which no other verdict was.
-fn ten(cycles: u32, nine: &Nine) -> [u64; 10]
+fn with_empty(cycles: u32, nine: &Nine) -> [u64; VERDICTS]
     requires { AreSmall (numbers_of nine.now) }
     ensures { result ≡ ten_counts cycles (numbers_of nine.now) }
 {
-    let waited = nine.no_flit + nine.no_idle_channel + nine.no_credit;
-    let lost = nine.lost_channel + nine.lost_input + nine.lost_switch;
-    let others = nine.routed + nine.granted + nine.moved + waited + lost;
-    [
-        empty_cycles(cycles, others),
-        nine.routed,
-        nine.granted,
-        nine.moved,
-        nine.no_flit,
-        nine.no_idle_channel,
-        nine.lost_channel,
-        nine.no_credit,
-        nine.lost_input,
-        nine.lost_switch,
-    ]
+    let mut all = [0; VERDICTS];
+    all[0] = empty_cycles(cycles, nine.sum());
+    all[1..].copy_from_slice(&nine.list());
+    all
 }

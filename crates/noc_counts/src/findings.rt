@@ -13,7 +13,7 @@ ghost use Rattle.noc_counts.specs.Told.{told_at};
 
 use crate::nine::Nine;
 use crate::verdicts::words_at;
-use noc_columns::{NUMBERS, ROUTERS, RouterPorts, Sends, WORDS, Words, alone_if, least};
+use noc_columns::{NUMBERS, ROUTERS, RouterPorts, Sends, WORDS, Words, alone_if, bit, least};
 use noc_cycles::{Block, Pattern, Work};
 use noc_view::{Finding, Verdict};
 
@@ -141,7 +141,7 @@ fn has(word: u64, router: usize) -> bool
     requires { router < ROUTERS }
     ensures { result ≡ has_bit word router }
 {
-    word >> router as u32 & 1 == 1
+    bit(word, router) == 1
 }
 
 // The verdict of a channel in a router, by the words of that channel.

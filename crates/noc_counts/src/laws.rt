@@ -29,7 +29,8 @@ pub fn findings_follow_from_grants()
         → HasDecidedHeld pattern layout sets s a h standing decided granted lost left
         → HasConcludedHeld pattern standing decided granted gone arrived h n v w
         → WantsAll ((pattern.table.ports.links.width + 1) * pattern.table.ports.links.vcs) a
-        → FindsAll pattern (verdict_sets_by standing decided w n.inputs.waiting granted lost) granted s n }
+        → FindsAll pattern
+        (verdict_sets_by standing decided w n.inputs.waiting granted lost) granted s n }
 {}
 
 /// All that the waiting channels of a router may take is wanted, where the words of the router

@@ -1,8 +1,9 @@
 //! How often each channel of the routers of a block had each of the ten verdicts, and what is found
 //! of each in a cycle.
 //!
-//! Nine verdicts are counted by bits, for all channels of a block at once. Empty is the rest. Many
-//! cycles that are like the last one, in which nothing happened, are counted together.
+//! Eight verdicts are counted by bits, for all channels of a block at once. Granted follows from
+//! Routed and from who waits now, and Empty is the rest. Many cycles that are like the last one, in
+//! which nothing happened, are counted together.
 #![tactic(auto)]
 
 mod count;

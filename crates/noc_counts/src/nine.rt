@@ -1,8 +1,8 @@
 //! A word for each verdict but Empty.
 
-ghost use Rattle.std.specs.Prelude.{◌≡◌};
+ghost use Rattle.std.specs.Prelude.{◌≡◌, sum};
 ghost use Rattle.noc_sets.specs.Counts.{nine_counts};
-ghost use Rattle.noc_counts.specs.Counts.{numbers_of};
+ghost use Rattle.noc_counts.specs.Counts.{AreSmall, numbers_of};
 
 // A word, or a number, for each verdict but Empty.
 #[derive(Drop)]
@@ -44,5 +44,15 @@ impl Nine {
             self.lost_input,
             self.lost_switch,
         ]
+    }
+
+    // Their sum, where they are counts.
+    pub(crate) fn sum(&self) -> u64
+        requires { AreSmall (numbers_of self.now) }
+        ensures { result ≡ sum (nine_counts (numbers_of self.now)) }
+    {
+        let waited = self.no_flit + self.no_idle_channel + self.no_credit;
+        let lost = self.lost_channel + self.lost_input + self.lost_switch;
+        self.routed + self.granted + self.moved + waited + lost
     }
 }

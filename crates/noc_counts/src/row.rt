@@ -12,11 +12,11 @@ use noc_cycles::{Block, Work};
 // How many groups of channels there are room for.
 pub(crate) const GROUPS: usize = 18;
 
-// How many verdicts are counted: all but Empty.
-pub(crate) const COUNTED: usize = 9;
+// How many verdicts are counted: all but Empty, and Granted, which follows from Routed.
+pub(crate) const COUNTED: usize = 8;
 
 // How many words a group has: of each of these verdicts one for each of its channels.
-pub(crate) const ROW: usize = 36;
+pub(crate) const ROW: usize = 32;
 
 // Where in a row the words of each verdict begin. (Those that follow from others stand first, so
 // that the compiler takes all of them four at a time.)
@@ -26,17 +26,15 @@ pub(crate) const NO_IDLE_CHANNEL: usize = 4;
 
 pub(crate) const ROUTED: usize = 8;
 
-pub(crate) const GRANTED: usize = 12;
+pub(crate) const MOVED: usize = 12;
 
-pub(crate) const MOVED: usize = 16;
+pub(crate) const LOST_CHANNEL: usize = 16;
 
-pub(crate) const LOST_CHANNEL: usize = 20;
+pub(crate) const NO_CREDIT: usize = 20;
 
-pub(crate) const NO_CREDIT: usize = 24;
+pub(crate) const LOST_INPUT: usize = 24;
 
-pub(crate) const LOST_INPUT: usize = 28;
-
-pub(crate) const LOST_SWITCH: usize = 32;
+pub(crate) const LOST_SWITCH: usize = 28;
 
 // The words of a group. Bit `r` of one is router `r` of the block.
 pub(crate) type Row = [u64; ROW];
@@ -52,9 +50,9 @@ pub(crate) fn row_at(block: &Block, work: &Work, group: usize) -> Row
     let c = words_at(block, work, GROUP * group + 2).list();
     let d = words_at(block, work, GROUP * group + 3).list();
     [
-        a[3], b[3], c[3], d[3], a[4], b[4], c[4], d[4], a[0], b[0], c[0], d[0], a[1], b[1], c[1],
-        d[1], a[2], b[2], c[2], d[2], a[5], b[5], c[5], d[5], a[6], b[6], c[6], d[6], a[7], b[7],
-        c[7], d[7], a[8], b[8], c[8], d[8],
+        a[3], b[3], c[3], d[3], a[4], b[4], c[4], d[4], a[0], b[0], c[0], d[0], a[2], b[2], c[2],
+        d[2], a[5], b[5], c[5], d[5], a[6], b[6], c[6], d[6], a[7], b[7], c[7], d[7], a[8], b[8],
+        c[8], d[8],
     ]
 }
 
@@ -64,7 +62,7 @@ pub(crate) fn waiting_in(row: &Row) -> Row
 {
     [
         row[0], row[1], row[2], row[3], row[4], row[5], row[6], row[7], 0, 0, 0, 0, 0, 0, 0, 0, 0,
-        0, 0, 0, 0, 0, 0, 0, row[24], row[25], row[26], row[27], 0, 0, 0, 0, 0, 0, 0, 0,
+        0, 0, 0, row[20], row[21], row[22], row[23], 0, 0, 0, 0, 0, 0, 0, 0,
     ]
 }
 

@@ -49,7 +49,7 @@ impl Tally {
         carry: [0; ROW],
     };
 
-    // No counts. (They are cleared where they stand, since they take 18 kB.)
+    // No counts. (They are cleared where they stand, since they take 16 kB.)
     pub(crate) fn clear(&mut self)
         ensures { (i r : ℕ) → i < ROW → counted_at self.new 0 i r ≡ 0 }
     {

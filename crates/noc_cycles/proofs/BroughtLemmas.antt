@@ -1,14 +1,11 @@
 -- What comes over the links of all ports is what the links bring.
-use Rattle.std.proofs.Common.{◌≡◌, ◌≢◌, ◌⊎◌, ℕ, zero, suc, ◌+◌, ◌-◌, ◌*◌, ◌/◌, ◌%◌, ◌<◌, ◌≤◌, Bool, true, false, List, [], ◌∷◌, Vec, Global, Option, Some, None, length, get_or, ap, ap₂, sym, subst, ◌∙◌, refl, arith, inl, inr}
-use Rattle.std.specs.Prelude.{◌&&◌, ◌||◌, nat_le, if◌then◌else◌}
-use Rattle.std.proofs.Common.{le-leb}
-use Rattle.std.proofs.lemmas.Bool.{lt-leb}
+use Rattle.std.proofs.Common.{◌≡◌, ◌⊎◌, ℕ, zero, suc, ◌+◌, ◌-◌, ◌*◌, ◌/◌, ◌%◌, ◌<◌, ◌≤◌, Bool, true, false, List, Option, Some, None, length, map, slice_index, ap, ap₂, sym, subst, ◌∙◌, refl, arith, inl, inr}
+use Rattle.std.specs.Prelude.{◌&&◌, ◌||◌, if◌then◌else◌}
 use Rattle.std.proofs.lemmas.Nat.{div-add-mod', div_below, le-div, mod_below}
 use Rattle.noc_topo.specs.Shape.{IsGrid}
 use Rattle.noc_topo.proofs.LinkLemmas.{link_back}
 use Rattle.noc_sets.specs.Gather.{gathered, is_over}
 use Rattle.noc_sets.proofs.GatherLemmas.{gathered-is, gathered-links}
-use Rattle.noc_sets.proofs.MemberLemmas.{or-false}
 use Rattle.noc_sets.proofs.UnionLemmas.{some-none}
 use Rattle.noc_columns.specs.Near.{comes_by, comes_from, comes_near}
 use Rattle.noc_columns.specs.Places.{AreFar, IsNear, far_places, places_by, stands_in}
@@ -16,7 +13,8 @@ use Rattle.noc_columns.specs.declared.neighbours.Near.{Near}
 use Rattle.noc_columns.specs.declared.ports.Ports.{Ports}
 use Rattle.noc_columns.proofs.NearLemmas.{are-places, brought-is}
 use Rattle.noc_columns.proofs.PlaceLemmas.{near-and-far, near-or-far, stands-beyond}
-use Rattle.noc_cycles.proofs.Common.{cases_eq, cases_lt, eq-eqb, le-ltb, lt-ltb, ne_eqb, div-mul-add, mod-mul-add, has_bit, has_bit-zero, Grid, local_port, neighbour, nodes, opposite, same-word, links_of, port_at, set_of, word, Far, apart, below-members, far_by, LeadBy}
+use Rattle.noc_cycles.specs.Around.{AreFarBy}
+use Rattle.noc_cycles.proofs.Common.{cases_eq, cases_lt, eq-eqb, le-ltb, lt-ltb, ne_eqb, div-mul-add, mod-mul-add, has_bit, has_bit-zero, Grid, local_port, neighbour, nodes, opposite, same-word, links_of, port_at, set_of, word, Far, apart, below-members, far_by, AreLed}
 
 -- ---- opposite ports
 pub opposite-below : (q w : ℕ) → w % 2 ≡ 0 → q < w → opposite q < w
@@ -42,49 +40,34 @@ opposite-up m q even = elim (cases_eq (q % 2) 0) [
       ∙ sym (ap (λ b. m + (if b then q + 1 else q - 1)) (ne_eqb (q % 2) 0 high))
 ]
 
--- ---- port after port
--- of words of one kind those of the ports below n have what comes from all blocks, and the others
--- what comes from block b
-pub record ArePorts (links : Ports) (near : Near) (far : ℕ → List Far) (sent : ℕ → List ℕ) (b n : ℕ) (now : List ℕ) : Type 0 where
-  pub done : (q v r : ℕ) → q < n → q < links.width → v < links.vcs → r < 64
-      → has_bit (word ((port_at links q).index v) now) r ≡ (comes_near near (sent b) ((port_at links q).index v) r || comes_by (far_places (far q)) (λ c. word ((port_at links (opposite q)).index v) (sent c)) r)
-  pub left : (q v r : ℕ) → n ≤ q → q < links.width → v < links.vcs → r < 64
-      → has_bit (word ((port_at links q).index v) now) r ≡ comes_near near (sent b) ((port_at links q).index v) r
+-- ---- of all ports
+-- words of one kind have what comes from block b, and from all others
+abbrev pub ArePorts : Ports → Near → (ℕ → List Far) → (ℕ → List ℕ) → ℕ → List ℕ → Type 0
+ArePorts links near far sent b now =
+    (q v r : ℕ) → q < links.width → v < links.vcs → r < 64
+    → has_bit (word ((port_at links q).index v) now) r ≡ (comes_near near (sent b) ((port_at links q).index v) r || comes_by (far_places (far q)) (λ c. word ((port_at links (opposite q)).index v) (sent c)) r)
 
-other-port : (first width p q v w : ℕ) → p < width → q < width → p ≢ q → first + v * width + q ≢ first + w * width + p
-other-port first width p q v w l m other e =
-    let same : v * width + q ≡ w * width + p = omega (arith, e) in
-    other (sym (sym (mod-mul-add v width q m) ∙ ap (λ n. n % width) same ∙ mod-mul-add w width p l))
+-- .. what comes from all others besides what they had
+abbrev pub AreJoined : Ports → List Far → (ℕ → List ℕ) → List ℕ → List ℕ → Type 0
+AreJoined links far sent old now =
+    (q v r : ℕ) → q < links.width → v < links.vcs → r < 64
+    → has_bit (word ((port_at links q).index v) now) r ≡ (has_bit (word ((port_at links q).index v) old) r || comes_by (far_places (far_by far q)) (λ c. word ((port_at links (opposite q)).index v) (sent c)) r)
 
-pub ports-first : (links : Ports) (near : Near) (far : ℕ → List Far) (sent : ℕ → List ℕ) (b groups : ℕ) (now from : List ℕ) → from ≡ sent b → links.first ≡ 0 → links.vcs * links.width ≤ 4 * groups
-    → ((k r : ℕ) → k < 4 * groups → r < 64 → has_bit (word k now) r ≡ comes_near near from k r) → ArePorts links near far sent b 0 now
-ports-first links near far sent b groups now from same first fit here = record {
-  done = λ q v r l. absurd (omega (arith, l));
-  left = λ q v r l m few low.
-      let inside = apart v links.vcs links.width q few m in
-      here ((port_at links q).index v) r (omega (arith, inside, fit, first)) low ∙ ap (λ w. comes_near near w ((port_at links q).index v) r) same;
-}
-
-pub ports-next : (links : Ports) (near : Near) (far : ℕ → List Far) (sent : ℕ → List ℕ) (b n : ℕ) (now new : List ℕ) (row : List Far) → row ≡ far n → n < links.width → ArePorts links near far sent b n now
-    → ((v r : ℕ) → v < links.vcs → r < 64 → has_bit (word ((port_at links n).index v) new) r ≡ (has_bit (word ((port_at links n).index v) now) r || comes_by (far_places row) (λ c. word ((port_at links (opposite n)).index v) (sent c)) r))
-    → ((k : ℕ) → ((v : ℕ) → v < links.vcs → k ≢ (port_at links n).index v) → word k new ≡ word k now)
-    → ArePorts links near far sent b (n + 1) new
-ports-next links near far sent b n now new row is inside are here others = record {
-  done = λ q v r l m few low. elim (cases_eq n q) [
-    | inl same ↦ subst (λ p. has_bit (word ((port_at links p).index v) new) r ≡ (comes_near near (sent b) ((port_at links p).index v) r || comes_by (far_places (far p)) (λ c. word ((port_at links (opposite p)).index v) (sent c)) r)) same
-        (here v r few low ∙ ap₂ (λ x f. x || comes_by (far_places f) (λ c. word ((port_at links (opposite n)).index v) (sent c)) r) (are.left n v r (omega arith) inside few low) is)
-    | inr other ↦ stays q v r m other ∙ are.done q v r (omega (arith, l, other)) m few low
-  ];
-  left = λ q v r l m few low. stays q v r m (λ e. absurd (omega (arith, e, l))) ∙ are.left q v r (omega (arith, l)) m few low;
-}
-  where
-    stays : (q v r : ℕ) → q < links.width → n ≢ q → has_bit (word ((port_at links q).index v) new) r ≡ has_bit (word ((port_at links q).index v) now) r
-    stays q v r m other = ap (λ w. has_bit w r) (others ((port_at links q).index v) (λ w few. other-port links.first links.width n q v w inside m other))
+pub ports-are : (links : Ports) (near : Near) (far items : List Far) (sent : ℕ → List ℕ) (b groups : ℕ) (old now from : List ℕ) → far ≡ items → from ≡ sent b → links.first ≡ 0 → links.vcs * links.width ≤ 4 * groups
+    → ((k r : ℕ) → k < 4 * groups → r < 64 → has_bit (word k old) r ≡ comes_near near from k r)
+    → AreJoined links far sent old now
+    → ArePorts links near (far_by items) sent b now
+ports-are links near far items sent b groups old now from is same first fit here joined = λ q v r l few low.
+    let inside = apart v links.vcs links.width q few l in
+    let all : AreJoined links items sent old now = subst (λ (xs : List Far). AreJoined links xs sent old now) is joined in
+    all q v r l few low
+    ∙ ap (λ x. x || comes_by (far_places (far_by items q)) (λ c. word ((port_at links (opposite q)).index v) (sent c)) r)
+    (here ((port_at links q).index v) r (omega (arith, inside, fit, first)) low ∙ ap (λ w. comes_near near w ((port_at links q).index v) r) same)
 
 -- ---- of one router
 module _ (g : Grid) (sound : IsGrid g) (links : Ports) (near : Near) (far : ℕ → List Far) (sent : ℕ → List ℕ) (b s : ℕ) (now : List ℕ) (leaves : ℕ → ℕ)
     (some : 0 < links.vcs) (pairs : links.width % 2 ≡ 0) (first : links.first ≡ 0) (width : links.width ≡ local_port g) (home : s / 64 ≡ b) (known : s < nodes g)
-    (own : IsNear g links.vcs b near) (others : (p : ℕ) → p < local_port g → AreFar g b p (far p)) (are : ArePorts links near far sent b links.width now)
+    (own : IsNear g links.vcs b near) (others : (p : ℕ) → p < local_port g → AreFar g b p (far p)) (are : ArePorts links near far sent b now)
     (shows : (t : ℕ) → t < nodes g → (o : ℕ) → o < links.width * links.vcs → has_bit (set_of (links_of links) (t % 64) (sent (t / 64))) o ≡ has_bit (leaves t) o) where
   -- what leaves a router, by the words
   abbrev words : ℕ → ℕ
@@ -112,7 +95,7 @@ module _ (g : Grid) (sound : IsGrid g) (links : Ports) (near : Near) (far : ℕ 
 
   comes : (q v : ℕ) → q < links.width → v < links.vcs → has_bit (word ((port_at links q).index v) now) (s % 64) ≡ is_over links.vcs leaves v (neighbour g s q)
   comes q v l few =
-      are.done q v (s % 64) l l few low
+      are q v (s % 64) l few low
       ∙ ap (λ x. x || comes_by (far_places (far q)) (λ c. word ((port_at links (opposite q)).index v) (sent c)) (s % 64)) near-is
       ∙ sym (near-or-far g links.vcs b (v * local_port g + q) (s % 64) near (far q) (to q v) (apart v links.vcs (local_port g) q few link) low own)
       ∙ brought-is g s q v links.vcs (places_by near (far q) b (v * local_port g + q)) (to q v) words
@@ -172,7 +155,7 @@ module _ (g : Grid) (sound : IsGrid g) (links : Ports) (near : Near) (far : ℕ 
 
 -- ---- of a router that the network does not have
 module _ (g : Grid) (links : Ports) (near : Near) (far : ℕ → List Far) (sent : ℕ → List ℕ) (b s : ℕ) (now : List ℕ) (first : links.first ≡ 0) (width : links.width ≡ local_port g) (home : s / 64 ≡ b)
-    (beyond : nodes g ≤ s) (own : IsNear g links.vcs b near) (others : (p : ℕ) → p < local_port g → AreFar g b p (far p)) (are : ArePorts links near far sent b links.width now) where
+    (beyond : nodes g ≤ s) (own : IsNear g links.vcs b near) (others : (p : ℕ) → p < local_port g → AreFar g b p (far p)) (are : ArePorts links near far sent b now) where
   low : s % 64 < 64
   low = omega arith
 
@@ -215,7 +198,7 @@ module _ (g : Grid) (links : Ports) (near : Near) (far : ℕ → List Far) (sent
           of (inl some) =
               let q : i / links.vcs < links.width = div_below i links.vcs links.width some l in
               let v : i % links.vcs < links.vcs = mod_below i links.vcs some in
-              are.done (i / links.vcs) (i % links.vcs) (s % 64) q q v low
+              are (i / links.vcs) (i % links.vcs) (s % 64) q v low
               ∙ ap₂ (λ x y. x || y) (near-not (i / links.vcs) (i % links.vcs) q v (sent b)) (far-not (i / links.vcs) q (λ c. word ((port_at links (opposite (i / links.vcs))).index (i % links.vcs)) (sent c)))
           of (inr zero_vcs) =
               let z : links.vcs ≡ 0 = omega (arith, zero_vcs) in
@@ -232,43 +215,13 @@ module _ (g : Grid) (links : Ports) (near : Near) (far : ℕ → List Far) (sent
           ∙ ap (λ x. x && has_bit (word ((links_of links).index i) now) (s % 64)) (le-ltb i (links.width * links.vcs) u)
           ∙ sym (has_bit-zero i)
 
--- ---- a block that is alone
--- none of its neighbours stand in another block
-alone-none : (g : Grid) (b p count : ℕ) (far : List Far) (sent : ℕ → ℕ) (r : ℕ) → AreFar g b p far → nodes g ≤ 64 * count → b < count → count ≤ 1 → comes_by (far_places far) sent r ≡ false
-alone-none g b p count far sent r are blocks own alone =
-    some-none (length far) _ (λ j m.
-    let other = (are.block j m).0 in
-    let there = (are.block j m).1 in
-    absurd (other (omega (arith, there, blocks, own, alone))))
-
--- so what comes by all ports has come, where those that may lead to other blocks are done
-pub ports-whole : (g : Grid) (links : Ports) (near : Near) (far : ℕ → List Far) (sent : ℕ → List ℕ) (b n count : ℕ) (now : List ℕ) → n ≡ (if nat_le count 1 then 0 else links.width) → links.width ≡ local_port g
-    → nodes g ≤ 64 * count → b < count → ((p : ℕ) → p < local_port g → AreFar g b p (far p)) → ArePorts links near far sent b n now → ArePorts links near far sent b links.width now
-ports-whole g links near far sent b n count now is width blocks own others are = elim (cases_lt 1 count) [
-  | inl several ↦ subst (λ m. ArePorts links near far sent b m now) (is ∙ ap (λ x. if x then 0 else links.width) (lt-leb count 1 several)) are
-  | inr alone ↦ record {
-    done = λ q v r l m few low.
-        are.left q v r (let z : n ≡ 0 = is ∙ ap (λ x. if x then 0 else links.width) (le-leb count 1 alone) in omega (arith, z)) m few low
-        ∙ sym (ap (λ x. comes_near near (sent b) ((port_at links q).index v) r || x)
-        (alone-none g b q count (far q) (λ c. word ((port_at links (opposite q)).index v) (sent c)) r (others q (subst (λ w. q < w) width m)) blocks own alone)
-        ∙ or-false (comes_near near (sent b) ((port_at links q).index v) r));
-    left = λ q v r l m few low. absurd (omega (arith, l, m));
-  }
-]
-
 -- ---- what is asked for
-abbrev pub items_of : Vec Far Global → List Far
-items_of far = far.items
-
-pub far-at : (far : List (Vec Far Global)) (p : ℕ) (d : Vec Far Global) → p < length far → (get_or far p d).items ≡ far_by far p
-far-at [] p d l = absurd (omega (arith, l))
-far-at (x ∷ far) zero d l = refl
-far-at (x ∷ far) (suc p) d l = far-at far p d (omega (arith, l))
-
-pub lead-by : (g : Grid) (links : Ports) (b p count : ℕ) (far : List Far) → links.width ≡ local_port g → links.width % 2 ≡ 0 → p < links.width → nodes g ≤ 64 * count → AreFar g b p far → LeadBy links p count far
-lead-by g links b p count far width pairs l blocks are = record {
-  port = l;
-  opposite = opposite-below p links.width pairs l;
-  each = are.port;
-  blocks = λ j m. let n = (are.block j m).1 in omega (arith, n, blocks);
+pub led-by : (g : Grid) (links : Ports) (b count : ℕ) (far : List Far) → links.width ≡ local_port g → links.width % 2 ≡ 0 → nodes g ≤ 64 * count → AreFarBy g b far → AreLed links count far
+led-by g links b count far width pairs blocks are = record {
+  port = port;
+  opposite = λ j l. opposite-below _ links.width pairs (port j l);
+  blocks = λ j l. let n = are.blocks j l in omega (arith, n, blocks);
 }
+  where
+    port : (j : ℕ) → j < length far → slice_index (map (λ (f : Far). f.port) far) j < links.width
+    port j l = subst (λ n. slice_index (map (λ (f : Far). f.port) far) j < n) (sym width) (are.ports j l)

@@ -35,7 +35,7 @@ pub use Rattle.noc_columns.proofs.RouterLemmas.{below-fits}
 pub use Rattle.noc_columns.proofs.SetLemmas.{below-members}
 pub use Rattle.noc_columns.proofs.SupplyLemmas.{member-is}
 pub use Rattle.noc_cycles.specs.Around.{far_by, number_or_nowhere}
-pub use Rattle.noc_cycles.specs.Gathered.{LeadBy, left_by}
+pub use Rattle.noc_cycles.specs.Gathered.{AreLed, left_by}
 pub use Rattle.noc_cycles.specs.Held.{Held, ShowsStill, held_at, links_at}
 pub use Rattle.noc_cycles.specs.Taking.{FitsLayout}
 pub use Rattle.noc_cycles.specs.Told.{NotesSome}

@@ -4,9 +4,10 @@ use Rattle.std.specs.Prelude.{◌&&◌, not, nat_lt, if◌then◌else◌}
 use Rattle.noc_sets.specs.Column.{Column}
 use Rattle.noc_sets.specs.Planes.{raised_by}
 use Rattle.noc_columns.specs.Steps.{TakesCredits}
-use Rattle.noc_columns.specs.Supply.{is_fed}
+use Rattle.noc_columns.specs.Supply.{DoesNotDrain, is_fed}
 use Rattle.noc_columns.specs.declared.channels.Returned.{Returned}
 use Rattle.noc_cycles.proofs.Common.{cases_lt, le-ltb, lt-ltb, div-mul-add, mod-mul-add, has_bit, has_bit-zero, zero_from_none, Layout, wrong_from, less, some_below, less_members, same-word, channels_of, links_of, port_at, list_of, planes_by, Numbering, set_alike, set_below, set_of, word, blank, apart, none-each, below-members, member-is, Held, FitsLayout, Pattern}
+use Rattle.noc_cycles.specs.May.{owned_by}
 use Rattle.noc_cycles.specs.Taking.{HasCredits}
 use Rattle.noc_cycles.proofs.ConcludingLemmas.{links-within}
 use Rattle.noc_cycles.proofs.PartLemmas.{none-above, size-is}
@@ -46,7 +47,14 @@ module _ (pattern : Pattern) (r : ℕ) where
           refl)
       at k (inr m) = ap (λ b. b && not (has_bit (wrong_from 0 planes link_places) k)) (none k m) ∙ sym (ap (λ b. b && not (has_bit (wrong_from 0 planes all_places) k)) (none k m))
 
-  -- a link channel of a port has a credit
+  -- a link channel of a port
+  in-port : (words : List ℕ) (q v : ℕ) → v < pattern.table.ports.links.vcs → q < pattern.table.ports.links.width → has_bit (set_of (port_at pattern.table.ports.links q) r words) v ≡ has_bit (set_of ks r words) (q * pattern.table.ports.links.vcs + v)
+  in-port words q v l few =
+      member-is (port_at pattern.table.ports.links q) r v words l
+      ∙ ap₂ (λ p w. has_bit (word ((port_at pattern.table.ports.links p).index w) words) r) (sym (div-mul-add q pattern.table.ports.links.vcs v l)) (sym (mod-mul-add q pattern.table.ports.links.vcs v l))
+      ∙ sym (member-is ks r (q * pattern.table.ports.links.vcs + v) words (apart q pattern.table.ports.links.width pattern.table.ports.links.vcs v few l))
+
+  -- it has a credit
   pub fed-links : (words : List ℕ) (q v : ℕ) → v < pattern.table.ports.links.vcs
       → is_fed pattern.table.ports.links.width (λ p. set_of (port_at pattern.table.ports.links p) r words) q v
       ≡ is_fed pattern.table.ports.links.width (λ p. set_below pattern.table.ports.links.vcs (λ w. has_bit (set_of ks r words) (p * pattern.table.ports.links.vcs + w))) q v
@@ -58,9 +66,7 @@ module _ (pattern : Pattern) (r : ℕ) where
       here : q < pattern.table.ports.links.width → has_bit (set_of (port_at pattern.table.ports.links q) r words) v
           ≡ has_bit (set_below pattern.table.ports.links.vcs (λ w. has_bit (set_of ks r words) (q * pattern.table.ports.links.vcs + w))) v
       here few =
-          member-is (port_at pattern.table.ports.links q) r v words l
-          ∙ ap₂ (λ p w. has_bit (word ((port_at pattern.table.ports.links p).index w) words) r) (sym (div-mul-add q pattern.table.ports.links.vcs v l)) (sym (mod-mul-add q pattern.table.ports.links.vcs v l))
-          ∙ sym (member-is ks r (q * pattern.table.ports.links.vcs + v) words (apart q pattern.table.ports.links.width pattern.table.ports.links.vcs v few l))
+          in-port words q v l few
           ∙ sym (below-members pattern.table.ports.links.vcs (λ w. has_bit (set_of ks r words) (q * pattern.table.ports.links.vcs + w)) v
           ∙ ap (λ b. b && has_bit (set_of ks r words) (q * pattern.table.ports.links.vcs + v)) (lt-ltb v pattern.table.ports.links.vcs l))
 
@@ -83,14 +89,15 @@ module _ (pattern : Pattern) (r : ℕ) where
       at k (inr m) = none-above ks r home k m
 
   -- ---- all that credits do
-  pub has-credits : (layout : Layout) (credits : ℕ) (h k : Held) (what : Returned ℕ) (some : List ℕ) (supplied : ℕ) → FitsLayout pattern layout → r < 64
-      → TakesCredits deep link_places credits h.outputs k.outputs what → what.some ≡ set_of ks r some
+  pub has-credits : (layout : Layout) (credits : ℕ) (h k : Held) (what : Returned ℕ) (some draining : List ℕ) (supplied : ℕ) → FitsLayout pattern layout → r < 64
+      → TakesCredits deep link_places credits h.outputs k.outputs what → what.some ≡ set_of ks r some → k.outputs.draining ≡ set_of ks r draining
       → ((c : ℕ) → pattern.table.ports.links.width * pattern.table.ports.links.vcs ≤ c → has_bit h.outputs.draining c ≡ false)
       → k.idle ≡ bit_or h.idle what.home → k ≡ record h { outputs = k.outputs; idle = k.idle }
       → ((i : ℕ) → i < (pattern.table.ports.links.width + 1) * pattern.table.ports.links.vcs → h.out_port i ≤ pattern.table.ports.links.width → h.out_vc i < pattern.table.ports.links.vcs
+      → DoesNotDrain pattern.table.ports.links.width (λ q. set_of (port_at pattern.table.ports.links q) r draining) (h.out_port i) (h.out_vc i)
       → has_bit supplied i ≡ is_fed pattern.table.ports.links.width (λ q. set_of (port_at pattern.table.ports.links q) r some) (h.out_port i) (h.out_vc i))
       → HasCredits pattern layout credits h k supplied
-  has-credits layout credits h k what some supplied fits few takes some_is none idle rest fed =
+  has-credits layout credits h k what some draining supplied fits few takes some_is drains none idle rest fed =
       let credit = list_of deep h.outputs.credit in
       let places : (planes : List ℕ) → less h.outputs.draining (wrong_from 0 planes link_places) ≡ less h.outputs.draining (wrong_from 0 planes layout.places) =
       λ planes. wrong-links planes h.outputs.draining none ∙ ap (λ o. less h.outputs.draining (wrong_from 0 planes o)) (sym (fits.places r few)) in
@@ -99,8 +106,8 @@ module _ (pattern : Pattern) (r : ℕ) where
         draining = ap (λ (c : Column). c.draining) (takes.column blank) ∙ ap (bit_xor h.outputs.draining) (places (raised_by credit credits));
         idle = idle ∙ ap (bit_or h.idle) (takes.home blank ∙ places (raised_by credit credits));
         rest = rest;
-        fed = λ i l below in_port.
-            fed i l below in_port
-            ∙ fed-links some (h.out_port i) (h.out_vc i) in_port
+        fed = λ i l below in_vc kept.
+            fed i l below in_vc (λ link. in-port draining (h.out_port i) (h.out_vc i) in_vc link ∙ ap (λ w. has_bit w (owned_by pattern.table.ports.links.vcs h i)) (sym drains) ∙ kept)
+            ∙ fed-links some (h.out_port i) (h.out_vc i) in_vc
             ∙ ap (λ w. is_fed pattern.table.ports.links.width (λ p. set_below pattern.table.ports.links.vcs (λ v. has_bit w (p * pattern.table.ports.links.vcs + v))) (h.out_port i) (h.out_vc i)) (sym some_is ∙ takes.some);
       }

@@ -21,6 +21,8 @@ use Rattle.noc_columns.specs.declared.marks.Marks.{Marks}
 use Rattle.noc_columns.specs.declared.picks.Picks.{Picks}
 use Rattle.noc_columns.specs.declared.supply.Sends.{Sends}
 use Rattle.noc_columns.specs.declared.switch.Switch.{Switch}
+use Rattle.noc_alloc.specs.Members.{MembersAreBelow}
+use Rattle.noc_columns.proofs.AllocatedLemmas.{sends-within}
 use Rattle.noc_columns.proofs.AllotmentLemmas.{the-allotment}
 use Rattle.noc_cycles.proofs.Common.{and_parts, eq-eqb, ne_eqb, has_bit, both_members, either_members, RouterMarks, Still, Layout, less, ShowsOwned, packet_in, channels_of, Numbering, set_of, word, Links, Standing, below-members, Held, ShowsStill, held_at, links_at, Block, Pattern}
 use Rattle.noc_cycles.specs.Deciding.{HasDecidedHeld}
@@ -33,6 +35,26 @@ abbrev pub found_at : Numbering → Marks → List ℕ → Sends (List ℕ) → 
 found_at n marks granted sends lost r =
     the-allotment (word r marks.waiting) (word r marks.idle) (word r marks.wanted) (λ k. word k (slice_index_or marks.sets r [])) (λ o. word o (slice_index_or marks.turns r [])) (set_of n r granted) (set_of n r lost)
     (λ k. number_in (digits_by (set_of n r) sends.port) k) (λ k. number_in (digits_by (set_of n r) sends.vc) k)
+
+-- who sends by a virtual channel that a port has still does when output channels are granted
+pub sends-then : (pattern : Pattern) (r : ℕ) (block : Block) (granted_before lost_before : List ℕ) → set_of (channels_of pattern.table.ports) r granted_before ≡ 0 → (granting : Marks) (grants : Grants) (lost : List ℕ)
+    → (has_bit block.marks.asking r ≡ true
+    → HasAllotted pattern.table.ports.links.vcs (found_at (channels_of pattern.table.ports) block.marks granted_before block.grants.sends lost_before r)
+    (allotment_at (channels_of pattern.table.ports) granting grants lost r))
+    → (has_bit block.marks.asking r ≡ false
+    → allotment_at (channels_of pattern.table.ports) granting grants lost r
+    ≡ found_at (channels_of pattern.table.ports) block.marks granted_before block.grants.sends lost_before r)
+    → MembersAreBelow ((pattern.table.ports.links.width + 1) * pattern.table.ports.links.vcs) (word r block.marks.waiting)
+    → (k : ℕ) → (held_at pattern.table.ports block r).out_vc k < pattern.table.ports.links.vcs
+    → (allotment_at (channels_of pattern.table.ports) granting grants lost r).out_vc k < pattern.table.ports.links.vcs
+sends-then pattern r block granted_before lost_before clear granting grants lost asked others waits k low = at (has_bit block.marks.asking r) refl
+  where
+    at : (x : Bool) → has_bit block.marks.asking r ≡ x → (allotment_at (channels_of pattern.table.ports) granting grants lost r).out_vc k < pattern.table.ports.links.vcs
+    at true e =
+        sends-within ((pattern.table.ports.links.width + 1) * pattern.table.ports.links.vcs) pattern.table.ports.links.vcs
+        (found_at (channels_of pattern.table.ports) block.marks granted_before block.grants.sends lost_before r) (allotment_at (channels_of pattern.table.ports) granting grants lost r)
+        pattern.some pattern.table.few waits clear (asked e) k low
+    at false e = subst (λ (b : Allotment). b.out_vc k < pattern.table.ports.links.vcs) (sym (others e)) low
 
 module _ (pattern : Pattern) (r : ℕ) (within : r < 64) (block : Block) (standing : Standing (List ℕ)) (granted_before lost_before : List ℕ)
     (clear : set_of (channels_of pattern.table.ports) r granted_before ≡ 0) (unlost : set_of (channels_of pattern.table.ports) r lost_before ≡ 0)

@@ -233,8 +233,16 @@ module _ (pattern : Pattern) (layout : Layout) (fits : FitsLayout pattern layout
   heads-are : t.heads ≡ less still.filled (bit_or h.inputs.waiting h.inputs.active)
   heads-are = lands.heads blank ∙ ap₂ (λ f (i : Inputs ℕ). less f (bit_or i.waiting i.active)) filled-is inputs-kept
 
+  -- what does not drain does not when credits have come
+  still-kept : (o : ℕ) → has_bit h.outputs.draining o ≡ false → has_bit a.outputs.draining o ≡ false
+  still-kept o kept =
+      let wrong = wrong_from 0 (raised_by (list_of deep h.outputs.credit) came.credits) layout.places in
+      ap (λ w. has_bit w o) credits.draining
+      ∙ xor_members h.outputs.draining (less h.outputs.draining wrong) o
+      ∙ ap₂ differ kept (less_members h.outputs.draining wrong o ∙ ap (λ b. b && not (has_bit wrong o)) kept)
+
   supplied-is : (i : ℕ) → has_bit h.inputs.active i ≡ true → has_bit supplied i ≡ has_bit (bit_or sup up) i
-  supplied-is = supplied-now pattern h m came.credits sup marks.owned below busy supplied had credits.fed
+  supplied-is = supplied-now pattern h m came.credits sup marks.owned below busy supplied had (λ i l port vc kept. credits.fed i l port vc (still-kept (owned_by pattern.table.ports.links.vcs h i) kept))
 
   ready-are : t.ready ≡ bit_and (bit_and h.inputs.active still.filled) (bit_or sup up)
   ready-are =

@@ -76,11 +76,12 @@ module _ (pattern : Pattern) (h : Held) (m : RouterMarks) (came have : ℕ)
   pub supplied-now : (supplied : ℕ)
       → ((i : ℕ) → i < (wide + 1) * vcs → has_bit have i ≡ (has_bit h.inputs.active i && is_fed wide (with_credit vcs credit) (h.out_port i) (h.out_vc i)))
       → ((i : ℕ) → i < (wide + 1) * vcs → h.out_port i ≤ wide → h.out_vc i < vcs
+      → has_bit h.outputs.draining (owned_by vcs h i) ≡ false
       → has_bit supplied i ≡ is_fed wide (λ q. set_below vcs (λ v. has_bit (any_from came credit) (q * vcs + v))) (h.out_port i) (h.out_vc i))
       → (i : ℕ) → has_bit h.inputs.active i ≡ true → has_bit supplied i ≡ has_bit (bit_or have up_of) i
   supplied-now supplied had fed i e =
       let in_port = owned.sends.port i e in
-      fed i (below i e) (omega (arith, in_port)) (owned.sends.vc i e)
+      fed i (below i e) (omega (arith, in_port)) (owned.sends.vc i e) (busy i e).1
       ∙ at (cases_lt (h.out_port i) wide)
       ∙ sym (either_members have up_of i ∙ ap₂ (λ a b. a || b) (had i (below i e) ∙ ap (λ a. a && is_fed wide (with_credit vcs credit) (h.out_port i) (h.out_vc i)) e) (up-members i e))
     where

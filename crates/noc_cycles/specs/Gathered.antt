@@ -50,9 +50,10 @@ brought g vcs left r = record {
   credits = gathered g vcs (λ s. (left s).credits) r;
 }
 
--- these neighbours all stand at the ends of links of port p, in some of so many blocks
-pub record LeadBy (links : Ports) (p count : ℕ) (far : List Far) : Type 0 where
-  pub port : p < links.width
-  pub opposite : opposite p < links.width
-  pub each : (j : ℕ) → j < length far → slice_index (map (λ (f : Far). f.port) far) j ≡ p
+-- these neighbours all stand at the ends of links, in some of so many blocks
+pub record AreLed (links : Ports) (count : ℕ) (far : List Far) : Type 0 where
+  pub port : (j : ℕ) → j < length far
+      → slice_index (map (λ (f : Far). f.port) far) j < links.width
+  pub opposite : (j : ℕ) → j < length far
+      → opposite (slice_index (map (λ (f : Far). f.port) far) j) < links.width
   pub blocks : (j : ℕ) → j < length far → (far_places far).block j < count

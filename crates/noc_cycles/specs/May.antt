@@ -66,6 +66,8 @@ pub record MayDecide (pattern : Pattern) (headers nodes node : ℕ) (h : Held) (
   pub apart : (i : ℕ) → has_bit h.inputs.active i ≡ true → has_bit h.waiting i ≡ false
   pub busy : (i : ℕ) → has_bit h.inputs.active i ≡ true
       → has_bit h.idle (owned_by pattern.table.ports.links.vcs h i) ≡ false
+  -- who is ready sends by a virtual channel that its port has
+  pub sends : (i : ℕ) → has_bit standing.ready i ≡ true → h.out_vc i < pattern.table.ports.links.vcs
   pub node_is : standing.heads ≢ 0 → node < nodes
   pub heads : (k : ℕ) → has_bit standing.heads k ≡ true → h.packet k < headers
 

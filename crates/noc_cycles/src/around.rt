@@ -5,7 +5,7 @@ ghost use Rattle.noc_columns.specs.Places.{IsNear};
 ghost use Rattle.noc_topo.specs.Shape.{local_port, neighbour, nodes};
 ghost use Rattle.noc_cycles.specs.Around.{AreAround, AreEnds, AreFarBy, number_or_nowhere};
 
-use noc_columns::{Far, Near, Neighbours, PORTS, ROUTERS, WORDS, far_of, near_of};
+use noc_columns::{Far, Near, Neighbours, PORTS, ROUTERS, WORDS, far_of, write_near};
 use noc_packet::{MAX_CHANNELS, Memory};
 use noc_topo::Shape;
 use std::alloc::Global;
@@ -20,14 +20,14 @@ pub struct Around {
     pub block: usize,
     /// The neighbours that stand in the block.
     pub near: Near,
-    /// By port, those that stand in other blocks.
-    pub far: Vec<Vec<Far>>,
+    /// Those that stand in other blocks, by port after port.
+    pub far: Vec<Far>,
     /// By router and port, the number of the router at the other end of the link, or `NOWHERE`.
     pub ends: [[u16; PORTS]; ROUTERS],
 }
 
 /// The tables of so many blocks of a network, where each port has so many virtual channels. (Those
-/// of one take 3 kB, so they are written where they stand.)
+/// of one take 4.5 kB, so they are written where they stand.)
 pub fn all_around(
     alloc: Global,
     shape: &Shape,
@@ -66,24 +66,16 @@ impl Around {
     }
 }
 
-// The neighbours that stand in a block.
-#[inline(never)]
-fn write_near(shape: &Shape, vcs: usize, block: usize, near: &mut Near)
-    requires vcs { vcs ≤ MAX_CHANNELS }
-    requires block { ROUTERS * block < nodes shape.now }
-    ensures { IsNear shape.now vcs block near.new }
-{
-    *near = near_of(shape, vcs, block);
-}
-
-// By port, the neighbours of the routers of a block that stand in other blocks.
-fn far_by_port(alloc: Global, shape: &Shape, block: usize) -> Result<Vec<Vec<Far>>, Memory>
+// The neighbours of the routers of a block that stand in other blocks, by port after port.
+fn far_by_port(alloc: Global, shape: &Shape, block: usize) -> Result<Vec<Far>, Memory>
     requires { ROUTERS * block < nodes shape.now }
     ensures { IfOk result (λ far. AreFarBy shape.now block far.items) }
 {
     let mut far = Vec::new(alloc);
-    for port in 0..shape.ports() - 1 {
-        far.push(far_of(alloc, shape, block, port)?)?;
+    let ports = shape.ports() - 1;
+    for port in 0..ports {
+        let mut more = far_of(alloc, shape, block, port)?;
+        far.append(&mut more)?;
     }
     Ok(far)
 }
@@ -137,6 +129,7 @@ const NO_NEAR: Near = Near {
 
 const NO_NEIGHBOURS: Neighbours = Neighbours {
     distance: [0; WORDS],
+    back: [0; WORDS],
     mask: [0; WORDS],
 };
 

@@ -9,9 +9,9 @@ ghost use Rattle.noc_columns.specs.Prelude.{has_bit, port_at, set_of, some_below
 
 use noc_columns::{CHANNELS, Ports, ROUTERS, Start, WORDS, Words, but_lowest, least};
 
-/// A packet begins in these local channels, which stand behind so many link channels. The number
-/// of each is kept: it is the next of its router.
-pub fn begin_packets(
+// A packet begins in these local channels, which stand behind so many link channels. The number
+// of each is kept: it is the next of its router.
+pub(crate) fn begin_packets(
     local: &Ports,
     links: usize,
     starts: &[Start],

@@ -7,6 +7,7 @@ ghost use Rattle.noc_sets.specs.Cycle.{Still};
 ghost use Rattle.noc_sets.specs.Layout.{Layout};
 ghost use Rattle.noc_columns.specs.Allotted.{HasAllottedAll, MayAllotAll};
 ghost use Rattle.noc_columns.specs.Heads.{HasRoutedAll, MayRouteAll};
+ghost use Rattle.noc_columns.specs.Picks.{SendByVcs};
 ghost use Rattle.noc_columns.specs.Routing.{AreRoutable, IsOfPorts, sets_by};
 ghost use Rattle.noc_columns.specs.Prelude.{MembersAreBelow, channels_of, has_bit, set_of};
 ghost use Rattle.noc_cycles.specs.Concluding.{standing_at};
@@ -20,8 +21,8 @@ use crate::block::{Block, Work};
 use crate::copies::clear;
 use crate::pattern::Pattern;
 use noc_columns::{
-    CHANNELS, Candidates, ChannelTable, Decided, Grants, Guide, Header, Links, Marks, ROUTERS,
-    RouterPorts, Switch, Words, allocate, pick, route, traverse,
+    CHANNELS, Candidates, ChannelTable, Decided, Grants, Guide, Header, Links, Marks, Picks,
+    ROUTERS, RouterPorts, Switch, Words, allocate, pick, route, traverse,
 };
 use noc_route::Relation;
 
@@ -67,6 +68,7 @@ pub fn decide(
     ensures work { work.new ≡ record work.old {
       decided = work.new.decided;
       lost = work.new.lost;
+      picks = work.new.picks;
     } }
 {
     let ports = &pattern.table.ports;
@@ -104,6 +106,7 @@ pub fn decide(
         &mut block.switch,
         &mut work.decided,
         left,
+        &mut work.picks,
     );
 }
 
@@ -146,23 +149,24 @@ fn send(
     switch: &mut Switch<Words>,
     decided: &mut Decided<Words>,
     left: &mut Links<Words>,
+    picks: &mut Picks,
 )
+    requires { SendByVcs ports.now candidates.now.standing.now.ready candidates.now.sends.now.vc }
     ensures { HasSentAll ports.now candidates.now.standing.now candidates.now.ahead.now
         candidates.now.sends.now switch.old.ahead switch.new.ahead decided.old decided.new left.old
         left.new }
 {
     let width = ports.links.width;
     if width == 2 {
-        send_by::<2>(ports, candidates, switch, decided, left);
+        send_by::<2>(ports, candidates, switch, decided, left, picks);
     } else if width == 4 {
-        send_by::<4>(ports, candidates, switch, decided, left);
+        send_by::<4>(ports, candidates, switch, decided, left, picks);
     } else {
-        send_by::<6>(ports, candidates, switch, decided, left);
+        send_by::<6>(ports, candidates, switch, decided, left, picks);
     }
 }
 
-// They do so where so many are link ports. (What is picked is written where it is read: an answer
-// of several branches would be moved.)
+// They do so where so many are link ports.
 #[inline(always)]
 fn send_by<const WIDTH: usize>(
     ports: &RouterPorts,
@@ -170,12 +174,15 @@ fn send_by<const WIDTH: usize>(
     switch: &mut Switch<Words>,
     decided: &mut Decided<Words>,
     left: &mut Links<Words>,
+    picks: &mut Picks,
 )
-    requires { WIDTH ≡ ports.now.links.width }
+    requires width { WIDTH ≡ ports.now.links.width }
+    requires sends { SendByVcs ports.now candidates.now.standing.now.ready
+        candidates.now.sends.now.vc }
     ensures { HasSentAll ports.now candidates.now.standing.now candidates.now.ahead.now
         candidates.now.sends.now switch.old.ahead switch.new.ahead decided.old decided.new left.old
         left.new }
 {
-    let picks = pick::<WIDTH>(ports, candidates, decided);
-    traverse::<WIDTH>(ports, &picks, switch, decided, left);
+    pick::<WIDTH>(ports, candidates, decided, picks);
+    traverse::<WIDTH>(ports, picks, switch, decided, left);
 }

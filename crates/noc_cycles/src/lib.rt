@@ -26,7 +26,7 @@ mod tells;
 mod turning;
 
 pub use around::{Around, all_around};
-pub use begins::{begin_packets, some_in};
+pub use begins::some_in;
 pub use block::{Block, Work};
 pub use concluding::conclude;
 pub use deciding::{Routing, decide};
@@ -37,7 +37,7 @@ pub use incoming::gather_links;
 pub use laws::routers_that_hold_nothing_are_empty;
 pub use notes::Note;
 pub use opening::{empty_works, open_blocks};
-pub use pattern::{Pattern, SHALLOW};
+pub use pattern::Pattern;
 pub use taking::take;
 pub use tells::{room_for_notes, tell};
 pub use turning::routers_take_part;

@@ -6,11 +6,13 @@
 use crate::block::{Block, Work};
 use noc_columns::{
     CHANNELS, Decided, Digits, Due, GRANTS, Grant, Grants, Injection, Inputs, Left, Links, Marks,
-    Outputs, Planes, ROUTERS, Returned, Sends, Sources, Standing, Switch, Verdicts, WORDS, Words,
+    Outputs, PORTS, Picks, Planes, REQUESTS, ROUTERS, Returned, SOON, Sends, Sources, Standing,
+    Switch, Verdicts, WORDS, Words,
 };
 
 /// A block.
 pub(crate) const NO_BLOCK: Block = Block {
+    before: [0; 6],
     inputs: Inputs {
         waiting: NO_WORDS,
         active: NO_WORDS,
@@ -22,6 +24,12 @@ pub(crate) const NO_BLOCK: Block = Block {
         draining: NO_WORDS,
         credit: NO_PLANES,
     },
+    switch: Switch { ahead: NO_WORDS },
+    injection: Injection {
+        injecting: NO_WORDS,
+        went: NO_WORDS,
+        begun: NO_WORDS,
+    },
     grants: Grants {
         granted: NO_WORDS,
         sends: Sends {
@@ -31,12 +39,6 @@ pub(crate) const NO_BLOCK: Block = Block {
         count: 0,
         given: [NO_GRANT; GRANTS],
     },
-    switch: Switch { ahead: NO_WORDS },
-    injection: Injection {
-        injecting: NO_WORDS,
-        went: NO_WORDS,
-        begun: NO_WORDS,
-    },
     marks: Marks {
         waiting: [0; ROUTERS],
         wanted: [0; ROUTERS],
@@ -44,7 +46,7 @@ pub(crate) const NO_BLOCK: Block = Block {
         asking: 0,
         sets: [[0; CHANNELS]; ROUTERS],
         turns: [[0; CHANNELS]; ROUTERS],
-        requests: [0; CHANNELS],
+        requests: [0; REQUESTS],
     },
     packets: [[0; CHANNELS]; ROUTERS],
     sources: Sources {
@@ -53,13 +55,17 @@ pub(crate) const NO_BLOCK: Block = Block {
             at: [0; ROUTERS],
             ready: 0,
             next: 0,
+            soon: [0; SOON],
+            until: 0,
         },
         queue: [0; ROUTERS],
     },
+    behind: [0; 6],
 };
 
 /// What is worked out in a cycle.
 pub(crate) const NO_WORK: Work = Work {
+    before: [0; 6],
     came: NO_LINKS,
     returned: Returned {
         some: NO_WORDS,
@@ -71,11 +77,16 @@ pub(crate) const NO_WORK: Work = Work {
         ready: NO_WORDS,
         last: NO_WORDS,
     },
-    heading: 0,
     decided: Decided {
         picked: NO_WORDS,
         past: NO_WORDS,
         sends: NO_WORDS,
+    },
+    picks: Picks {
+        any: NO_PORTS,
+        tail: NO_PORTS,
+        port: NO_PORT_DIGITS,
+        vc: NO_PORT_DIGITS,
     },
     lost: NO_WORDS,
     verdicts: Verdicts {
@@ -85,6 +96,7 @@ pub(crate) const NO_WORK: Work = Work {
     },
     arrived: NO_WORDS,
     leaving: 0,
+    heading: 0,
 };
 
 const NO_GRANT: Grant = Grant {
@@ -114,6 +126,14 @@ const NO_DIGITS: Digits<Words> = Digits {
     ones: NO_WORDS,
     twos: NO_WORDS,
     fours: NO_WORDS,
+};
+
+const NO_PORTS: [u64; PORTS] = [0; PORTS];
+
+const NO_PORT_DIGITS: Digits<[u64; PORTS]> = Digits {
+    ones: NO_PORTS,
+    twos: NO_PORTS,
+    fours: NO_PORTS,
 };
 
 /// No flits of packets.

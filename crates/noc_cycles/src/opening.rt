@@ -14,8 +14,14 @@ use noc_packet::Memory;
 use noc_topo::MAX_NODES;
 use std::alloc::Global;
 
+// Room for so many blocks takes more than 2 MiB, so that the list is mapped by itself.
+const LEAST_BLOCKS: usize = 18;
+
+// As much room for what so many blocks work out.
+const LEAST_WORKS: usize = 203;
+
 /// So many blocks before the first cycle, where these are the first packets of all routers. (Each
-/// is opened where it stands, since it takes 115 kB.)
+/// is opened where it stands, since it takes 118 kB.)
 pub fn open_blocks(
     alloc: Global,
     pattern: &Pattern,
@@ -25,7 +31,7 @@ pub fn open_blocks(
     requires { ROUTERS * count ≤ MAX_NODES }
     ensures { IfOk result (λ blocks. AreOpened pattern.now firsts.now count blocks.items) }
 {
-    let mut blocks = Vec::with_capacity(alloc, count)?;
+    let mut blocks = Vec::with_capacity(alloc, count.max(LEAST_BLOCKS))?;
     for number in 0..count {
         blocks.push(NO_BLOCK)?;
         blocks[number].open(pattern, firsts, number);
@@ -37,7 +43,7 @@ pub fn open_blocks(
 pub fn empty_works(alloc: Global, count: usize) -> Result<Vec<Work>, Memory>
     ensures { IfOk result (λ works. AreEmptyWorks count works.items) }
 {
-    let mut works = Vec::with_capacity(alloc, count)?;
+    let mut works = Vec::with_capacity(alloc, count.max(LEAST_WORKS))?;
     for _ in 0..count {
         works.push(NO_WORK)?;
     }

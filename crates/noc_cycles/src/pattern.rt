@@ -8,8 +8,8 @@ use noc_columns::{ChannelTable, Frame, GROUP, Planes, Ports, RouterPorts, WORDS}
 use noc_packet::MAX_CHANNELS;
 use noc_topo::{LINKS, Shape};
 
-/// Up to how many flits or credits a count goes that is not deep.
-pub const SHALLOW: usize = 7;
+// Up to how many flits or credits a count goes that is not deep.
+const SHALLOW: usize = 7;
 
 /// Where the words of the channels of a router stand, and how many places a buffer has.
 #[derive(Drop)]

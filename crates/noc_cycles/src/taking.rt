@@ -99,11 +99,13 @@ fn count_credits(pattern: &Pattern, block: &mut Block, work: &mut Work)
         &mut work.returned,
     );
     free_links(pattern, home, &work.returned.home, &mut block.marks);
+    let grants = &block.grants;
     look_up(
         &pattern.frame,
         &pattern.table.ports,
-        &block.grants.sends,
+        &grants.sends,
         &work.returned.some,
+        &block.outputs.draining,
         &mut work.standing.supplied,
     );
 }
@@ -207,6 +209,7 @@ fn begin_if(
 
 // In some routers a flit of a packet that has begun is injected, and in others the next packet
 // begins. The answer is the routers in which the last flit of a packet is injected.
+#[inline(always)]
 fn send_all(starts: &[Start], cycle: u32, went: u64, begins: u64, sources: &mut Sources) -> u64
     requires few { length starts.now < 2 ^ 32 }
     requires left { (r : ℕ) → has_bit went r ≡ true → 0 < left_in sources.old.left r }

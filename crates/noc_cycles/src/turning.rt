@@ -18,6 +18,6 @@ pub fn routers_take_part()
         → FitsLayout pattern layout
         → HasWorkedHeld pattern layout starts sets cycle b
         (still_of layout starts cycle goes.takes.up b) goes.decides.chosen n
-        (verdict_sets_by x.standing x.decided x.verdicts n.inputs.waiting x.granted x.lost) x.left x.arrived
-        happens }
+        (verdict_sets_by x.standing x.decided x.verdicts n.inputs.waiting x.granted x.lost)
+        x.left x.arrived happens }
 {}

@@ -5,15 +5,19 @@ use Rattle.std.proofs.lemmas.Bool.{cases_lt}
 use Rattle.std.proofs.Math.ListN.{get_or-map, length-map}
 use Rattle.std.proofs.lemmas.List.{get_or-append_right, get_or_append_left}
 use Rattle.std.proofs.lemmas.Option.{slice_get_within}
+use Rattle.noc_topo.specs.Lists.{one_if}
 use Rattle.noc_topo.specs.Shape.{nodes}
+use Rattle.noc_packet.specs.Set.{has_bit}
 use Rattle.noc_sets.specs.Cycle.{Router}
 use Rattle.noc_theory.specs.Lockstep.{has_event_at}
 use Rattle.noc_theory.specs.Network.{Setup, arrival_in, packet_at, state_at}
 use Rattle.noc_theory.specs.Progress.{events}
 use Rattle.noc_theory_bits.specs.Network.{IsOwn, ShowsLastOf, ShowsRouter, all_starts}
+use Rattle.noc_columns.specs.Picks.{channels_of}
 use Rattle.noc_columns.specs.Routing.{header_in, header_of}
 use Rattle.noc_columns.specs.declared.channels.Links.{Links}
 use Rattle.noc_columns.specs.declared.header.Header.{Header}
+use Rattle.noc_counts.specs.Counts.{HasHad}
 use Rattle.noc_counts.specs.declared.counts.Counts.{Counts}
 use Rattle.noc_cycles.specs.Held.{held_at, links_at}
 use Rattle.noc_cycles.specs.Told.{HaveRoom}
@@ -34,7 +38,7 @@ pub block-words : (net : Setup) (plan : Plan) (n b : ℕ) (words same : ℕ → 
     → ShowsBlock net plan n b words block came counts → ShowsBlock net plan n b same block came counts
 block-words net plan n b words same block came counts are shows = record {
   routers = λ r l. subst (λ (w : Router). ShowsNode (bits_of plan.pattern) net plan.pattern n (64 * b + r) (links_at plan.pattern.table.ports came r) (held_at plan.pattern.table.ports block r) w) (are r l) (shows.routers r l);
-  counted = λ r i l u. ap (λ (w : Router). w.counts i) (sym (are r l)) ∙ shows.counted r i l u;
+  counted = λ r i l u. subst (λ (w : Router). HasHad (channels_of plan.pattern.table.ports) counts r i (one_if (has_bit w.column.waiting i)) (w.counts i)) (are r l) (shows.counted r i l u);
   few = shows.few;
   before = shows.before;
   known = shows.known;

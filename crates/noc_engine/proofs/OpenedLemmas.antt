@@ -4,11 +4,14 @@ use Rattle.std.specs.Int.{div_ceil}
 use Rattle.std.specs.Prelude.{min, slice_get, slice_index, slice_index_or}
 use Rattle.std.proofs.lemmas.List.{get_or-replicate, length-replicate}
 use Rattle.std.proofs.lemmas.Option.{get_or_from_slice_get, slice_get_within}
+use Rattle.noc_topo.specs.Lists.{one_if}
 use Rattle.noc_topo.specs.Shape.{Grid, nodes}
 use Rattle.noc_topo.proofs.LinkLemmas.{nodes-some}
+use Rattle.noc_packet.specs.Set.{has_bit}
 use Rattle.noc_packet.specs.declared.packet.Packet.{Packet}
+use Rattle.noc_packet.proofs.SetLemmas.{has_bit-zero}
 use Rattle.noc_route.specs.Routes.{Routes}
-use Rattle.noc_sets.specs.Counts.{ShowsLastEvent}
+use Rattle.noc_sets.specs.Counts.{ShowsLastEvent, no_counts}
 use Rattle.noc_sets.specs.Cycle.{Router}
 use Rattle.noc_theory.specs.Good.{IsGoodSetup}
 use Rattle.noc_theory.specs.Network.{Setup}
@@ -19,10 +22,11 @@ use Rattle.noc_theory_bits.proofs.bits.NetworkLemmas.{network-own}
 use Rattle.noc_columns.specs.Picks.{channels_of}
 use Rattle.noc_columns.specs.Routing.{header_of}
 use Rattle.noc_columns.specs.Sources.{starts_by}
+use Rattle.noc_columns.specs.declared.channels.Inputs.{Inputs}
 use Rattle.noc_columns.specs.declared.channels.Links.{Links}
 use Rattle.noc_columns.specs.declared.due.TheConstants.{NEVER}
 use Rattle.noc_columns.specs.declared.ports.RouterPorts.{RouterPorts}
-use Rattle.noc_counts.specs.Counts.{IsClear}
+use Rattle.noc_counts.specs.Counts.{HasHad, IsClear}
 use Rattle.noc_counts.specs.declared.counts.Counts.{Counts}
 use Rattle.noc_cycles.specs.Around.{AreAround, IsAround}
 use Rattle.noc_cycles.specs.Held.{held_at, links_at}
@@ -158,7 +162,10 @@ module _ (net : Setup) (firsts : List First) (count : ℕ) (all : Engine) (of : 
     block-shown : ShowsBlock net all.plan 0 b words block work.came counts
     block-shown = record {
       routers = routers;
-      counted = λ r i l m. sym (clear.each (channels_of ports) r i (λ c low. let below = all-within pattern c low in let few = pattern.frame.few in omega (arith, below, few)) m);
+      counted = λ r i l m.
+          subst (λ (w : Router). HasHad (channels_of ports) counts r i (one_if (has_bit w.column.waiting i)) (w.counts i)) (sym (words-are r l))
+          (subst (λ x. HasHad (channels_of ports) counts r i (one_if x) no_counts) (sym (ap (λ (x : Inputs ℕ). has_bit x.waiting i) (is-opened.routers r l).inputs ∙ has_bit-zero i))
+          (clear.each (channels_of ports) r i (λ c low. let below = all-within pattern c low in let few = pattern.frame.few in omega (arith, below, few)) m));
       few = let none = clear.cycles in omega (arith, none);
       before = 0;
       known = omega arith;

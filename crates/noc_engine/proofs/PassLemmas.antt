@@ -4,14 +4,14 @@ use Rattle.std.specs.Prelude.{◌⊎◌, ◌||◌, Option, slice_get}
 use Rattle.std.proofs.lemmas.Bool.{cases_eq, cases_lt}
 use Rattle.std.proofs.lemmas.Option.{get_or_from_slice_get, slice_get-get_or}
 use Rattle.noc_packet.specs.Set.{has_bit}
-use Rattle.noc_sets.specs.Counts.{with_verdicts}
+use Rattle.noc_sets.specs.Counts.{ByVerdict, with_verdicts}
 use Rattle.noc_sets.specs.Unions.{some_below}
 use Rattle.noc_sets.proofs.UnionLemmas.{or-assoc, or-none}
 use Rattle.noc_columns.specs.Heads.{packet_in}
 use Rattle.noc_columns.specs.Picks.{channels_of}
 use Rattle.noc_columns.specs.Words.{IsWithin, Numbering, set_of}
 use Rattle.noc_columns.specs.declared.ports.RouterPorts.{RouterPorts}
-use Rattle.noc_counts.specs.Counts.{counted_in, counts_at, last_at}
+use Rattle.noc_counts.specs.Counts.{HasHad, WaitsOn, counted_in, delays_of, last_at}
 use Rattle.noc_counts.specs.Told.{told_at}
 use Rattle.noc_counts.specs.declared.counts.Counts.{Counts}
 use Rattle.noc_cycles.specs.Concluding.{HaveArrived}
@@ -75,9 +75,9 @@ none-leaves ports works n e inside tells = tells n (get_or works n e) (slice_get
 
 -- ---- a block is counted
 pub counted-here : (pattern : Pattern) (works : List Work) (counts : List Counts) (n : ℕ) (x : Counts) (block : Block) (e : Work) (f : Counts) → n < length counts
-    → ((m : Numbering) (r i : ℕ) → IsWithin (4 * pattern.frame.groups) m → i < m.size → counted_in (get_or counts n f) + 1 < 2 ^ 32
-    → counts_at m x r i ≡ with_verdicts (told_at m block (get_or works n e) r) i (counts_at m (get_or counts n f) r i))
-    → ((m : Numbering) (r : ℕ) → IsWithin (4 * pattern.frame.groups) m → counted_in (get_or counts n f) + 1 < 2 ^ 32 → last_at m x r ≡ told_at m block (get_or works n e) r)
+    → ((m : Numbering) (r i before after : ℕ) (c : ByVerdict) → IsWithin (4 * pattern.frame.groups) m → i < m.size → counted_in (get_or counts n f) + 1 < 2 ^ 32 → WaitsOn (told_at m block (get_or works n e) r) i before after
+    → HasHad m (get_or counts n f) r i before c → HasHad m x r i after (with_verdicts (told_at m block (get_or works n e) r) i c))
+    → ((m : Numbering) (r : ℕ) → IsWithin (4 * pattern.frame.groups) m → counted_in (get_or counts n f) + 1 < 2 ^ 32 → last_at m x r ≡ delays_of (told_at m block (get_or works n e) r))
     → counted_in x ≡ (counted_in (get_or counts n f) + 1) % 2 ^ 32
     → (work : Work) → slice_get works n ≡ Some work → HasCounted pattern.table.ports block work (get_or counts n x) x
 counted-here pattern works counts n x block e f inside each last cycles work on =
@@ -85,7 +85,7 @@ counted-here pattern works counts n x block e f inside each last cycles work on 
     subst (λ (w : Work). HasCounted ports block w (get_or counts n x) x) (get_or_from_slice_get works n work e on)
     (subst (λ (c : Counts). HasCounted ports block (get_or works n e) c x) (get_or_from_slice_get counts n (get_or counts n x) f (slice_get-get_or counts n x inside))
     (record {
-      counts = λ r i l few. each (channels_of ports) r i (all-within pattern) l few;
+      counts = λ r i before after had l few waits is. each (channels_of ports) r i before after had (all-within pattern) l few waits is;
       last = λ r few. last (channels_of ports) r (all-within pattern) few;
       cycles = cycles;
     }))

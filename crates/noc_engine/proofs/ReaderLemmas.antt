@@ -5,17 +5,22 @@ use Rattle.std.proofs.lemmas.Bool.{eq-eqb, ne_eqb}
 use Rattle.std.proofs.lemmas.List.{ext_get_or, get_or-drop, get_or-take, length-drop, length-take-le}
 use Rattle.std.proofs.lemmas.Nat.{mod_below}
 use Rattle.std.proofs.lemmas.Option.{slice_get-get_or}
+use Rattle.noc_topo.specs.Lists.{one_if}
 use Rattle.noc_topo.specs.Shape.{nodes, ports}
 use Rattle.noc_topo.proofs.ListLemmas.{length-tabulate}
+use Rattle.noc_packet.specs.Set.{has_bit}
 use Rattle.noc_route.proofs.EntryLemmas.{flat-below}
 use Rattle.noc_view.specs.Found.{empty_finding, finding_at}
 use Rattle.noc_view.specs.declared.finding.Finding.{Finding}
+use Rattle.noc_sets.specs.Column.{Column}
 use Rattle.noc_sets.specs.Counts.{ByVerdict, ShowsLastEvent, ten_counts}
 use Rattle.noc_sets.specs.Cycle.{Router}
 use Rattle.noc_columns.specs.Picks.{channels_of}
+use Rattle.noc_columns.specs.Words.{set_of}
 use Rattle.noc_columns.specs.declared.due.TheConstants.{NEVER}
-use Rattle.noc_counts.specs.Counts.{counts_at}
+use Rattle.noc_counts.specs.Counts.{HasHad}
 use Rattle.noc_counts.specs.declared.counts.Counts.{Counts}
+use Rattle.noc_cycles.specs.declared.block.Block.{Block}
 use Rattle.noc_theory.specs.Lockstep.{counts_before, findings_before}
 use Rattle.noc_theory.specs.Network.{Setup, arrival_in, size, state_at}
 use Rattle.noc_theory.specs.Progress.{last_event_before}
@@ -67,20 +72,31 @@ module _ (net : Setup) (n : ℕ) (words : ℕ → Router) (all : Engine) (shows 
   sizes = ap₂ (λ p v. p * v) (plan-fits net all.plan shows.good shows.tile.plan_is).ports.count (plan-fits net all.plan shows.good shows.tile.plan_is).ports.vcs
 
   -- what was counted of it is what its word has
-  pub counted-word : (r i : ℕ) (c : Counts) → r < nodes net.relation.grid → i < size net → slice_get all.tile.counts.items (r / 64) ≡ Some c
-      → (words r).counts i ≡ counts_at (channels_of all.plan.pattern.table.ports) c (r % 64) i
+  counted-word : (r i : ℕ) (c : Counts) → r < nodes net.relation.grid → i < size net → slice_get all.tile.counts.items (r / 64) ≡ Some c
+      → HasHad (channels_of all.plan.pattern.table.ports) c (r % 64) i (one_if (has_bit (words r).column.waiting i)) ((words r).counts i)
   counted-word r i c l u at =
       let low = in-block net n words all shows r l in
       let block = there all.tile.blocks.items (r / 64) low in
       let work = there all.tile.works.items (r / 64) (let long = shows.tile.lists.works_are in omega (arith, low, long)) in
       let whole : 64 * (all.tile.first + r / 64) + r % 64 ≡ r = let first = shows.first in omega (arith, first) in
-      ap (λ s. (words s).counts i) (sym whole)
-      ∙ (shows.tile.blocks (r / 64) block.0 work.0 c block.1 work.1 at).counted (r % 64) i (mod_below r 64 (omega arith)) (subst (λ m. i < m) sizes u)
+      subst (λ s. HasHad (channels_of all.plan.pattern.table.ports) c (r % 64) i (one_if (has_bit (words s).column.waiting i)) ((words s).counts i)) whole
+      ((shows.tile.blocks (r / 64) block.0 work.0 c block.1 work.1 at).counted (r % 64) i (mod_below r 64 (omega arith)) (subst (λ m. i < m) sizes u))
+
+  -- the channels that wait are those of the words of its block
+  waiting-word : (r : ℕ) (block : Block) → r < nodes net.relation.grid → slice_get all.tile.blocks.items (r / 64) ≡ Some block
+      → (words r).column.waiting ≡ set_of (channels_of all.plan.pattern.table.ports) (r % 64) block.inputs.waiting
+  waiting-word r block l at =
+      let low = in-block net n words all shows r l in
+      let work = there all.tile.works.items (r / 64) (let long = shows.tile.lists.works_are in omega (arith, low, long)) in
+      let counts = there all.tile.counts.items (r / 64) (let long = shows.tile.lists.counts_are in omega (arith, low, long)) in
+      let whole : 64 * (all.tile.first + r / 64) + r % 64 ≡ r = let first = shows.first in omega (arith, first) in
+      let held = ((shows.tile.blocks (r / 64) block work.0 counts.0 at work.1 counts.1).routers (r % 64) (mod_below r 64 (omega arith))).held in
+      ap (λ s. (words s).column.waiting) (sym whole) ∙ ap (λ (c : Column). c.waiting) held.column
 
   -- the place of what was counted of a channel
   pub counts-fit : (r port vc : ℕ) → r < nodes net.relation.grid → port < ports net.relation.grid → vc < net.relation.vcs
       → (port * all.plan.pattern.table.ports.links.vcs + vc < (all.plan.pattern.table.ports.links.width + 1) * all.plan.pattern.table.ports.links.vcs)
-      × ((all.plan.pattern.table.ports.links.width + 1) * all.plan.pattern.table.ports.links.vcs ≤ 64) × (r / 64 < length all.tile.counts.items)
+      × ((all.plan.pattern.table.ports.links.width + 1) * all.plan.pattern.table.ports.links.vcs ≤ 64) × (r / 64 < length all.tile.counts.items) × (r / 64 < length all.tile.blocks.items)
   counts-fit r port vc l u v =
       let links = all.plan.pattern.table.ports.links in
       let few : port * net.relation.vcs + vc < size net = flat-below port (ports net.relation.grid) vc net.relation.vcs u v in
@@ -92,19 +108,27 @@ module _ (net : Setup) (n : ℕ) (words : ℕ → Router) (all : Engine) (shows 
         subst (λ k. port * k + vc < (links.width + 1) * links.vcs) (plan-fits net all.plan shows.good shows.tile.plan_is).ports.vcs (subst (λ m. port * net.relation.vcs + vc < m) sizes few),
         omega (arith, all_few, frame, same),
         omega (arith, low, long),
+        low,
       )
 
-  pub counts-are : (r port vc : ℕ) (c : Counts) (counts : List ℕ) → r < nodes net.relation.grid → port < ports net.relation.grid → vc < net.relation.vcs
-      → c ≡ get_or all.tile.counts.items (r / 64) c
-      → counts ≡ ten_counts all.tile.cycle (counts_at (channels_of all.plan.pattern.table.ports) c (r % 64) (port * all.plan.pattern.table.ports.links.vcs + vc))
+  pub counts-are : (r port vc : ℕ) (c : Counts) (block : Block) (counts : List ℕ) → r < nodes net.relation.grid → port < ports net.relation.grid → vc < net.relation.vcs
+      → c ≡ get_or all.tile.counts.items (r / 64) c → block ≡ get_or all.tile.blocks.items (r / 64) block
+      → ((had : ByVerdict)
+      → HasHad (channels_of all.plan.pattern.table.ports) c (r % 64) (port * all.plan.pattern.table.ports.links.vcs + vc)
+      (one_if (has_bit (set_of (channels_of all.plan.pattern.table.ports) (r % 64) block.inputs.waiting) (port * all.plan.pattern.table.ports.links.vcs + vc))) had
+      → counts ≡ ten_counts all.tile.cycle had)
       → counts ≡ counts_before net n r (port * net.relation.vcs + vc)
-  counts-are r port vc c counts l u v c_is is =
+  counts-are r port vc c block counts l u v c_is block_is is =
       let i = port * net.relation.vcs + vc in
       let few : i < size net = flat-below port (ports net.relation.grid) vc net.relation.vcs u v in
       let at : slice_get all.tile.counts.items (r / 64) ≡ Some c =
       slice_get-get_or all.tile.counts.items (r / 64) c (let low = in-block net n words all shows r l in let long = shows.tile.lists.counts_are in omega (arith, low, long)) ∙ ap Some (sym c_is) in
-      is ∙ ap (λ k. ten_counts all.tile.cycle (counts_at (channels_of all.plan.pattern.table.ports) c (r % 64) (port * k + vc))) (sym (plan-fits net all.plan shows.good shows.tile.plan_is).ports.vcs)
-      ∙ ap (λ (x : ByVerdict). ten_counts all.tile.cycle x) (sym (counted-word r i c l few at))
+      let here : slice_get all.tile.blocks.items (r / 64) ≡ Some block =
+      slice_get-get_or all.tile.blocks.items (r / 64) block (in-block net n words all shows r l) ∙ ap Some (sym block_is) in
+      let all_of = channels_of all.plan.pattern.table.ports in
+      is ((words r).counts i)
+      (subst (λ k. HasHad all_of c (r % 64) (port * k + vc) (one_if (has_bit (set_of all_of (r % 64) block.inputs.waiting) (port * k + vc))) ((words r).counts i)) (plan-fits net all.plan shows.good shows.tile.plan_is).ports.vcs
+      (subst (λ w. HasHad all_of c (r % 64) i (one_if (has_bit w i)) ((words r).counts i)) (waiting-word r block l here) (counted-word r i c l few at)))
       ∙ ap (λ m. ten_counts m ((words r).counts i)) shows.tile.cycle
       ∙ counts-read net n (words_in words all.tile) (network-shown net n words all shows) r i l few
 

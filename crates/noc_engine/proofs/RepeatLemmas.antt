@@ -4,11 +4,11 @@ use Rattle.std.specs.Prelude.{◌⊎◌, min, slice_get, sum}
 use Rattle.std.proofs.lemmas.Bool.{cases_eq, cases_lt}
 use Rattle.std.proofs.lemmas.List.{get_or_default}
 use Rattle.std.proofs.lemmas.Option.{slice_get_within}
-use Rattle.noc_sets.specs.Counts.{ByVerdict, RunOn, nine_counts, with_verdicts}
+use Rattle.noc_sets.specs.Counts.{ByVerdict, nine_counts}
 use Rattle.noc_columns.specs.Picks.{channels_of}
 use Rattle.noc_columns.specs.Words.{IsWithin, Numbering}
 use Rattle.noc_columns.specs.declared.due.TheConstants.{NEVER}
-use Rattle.noc_counts.specs.Counts.{counted_in, counts_at, last_at}
+use Rattle.noc_counts.specs.Counts.{HasHad, counted_in, last_at, with_delays}
 use Rattle.noc_counts.specs.declared.counts.Counts.{Counts}
 use Rattle.noc_cycles.specs.declared.block.Block.{Block}
 use Rattle.noc_cycles.specs.declared.pattern.Pattern.{Pattern}
@@ -52,10 +52,10 @@ due-all blocks number next all was = record {
 
 -- ---- a cycle that is counted again
 pub repeated-here : (pattern : Pattern) (times : ℕ) (all : List Counts) (k : ℕ) (d new : Counts) → k < length all
-    → ((n : Numbering) (r i : ℕ) (before : ByVerdict) → IsWithin (4 * pattern.frame.groups) n → i < n.size → counts_at n (get_or all k d) r i ≡ with_verdicts (last_at n (get_or all k d) r) i before
-    → sum (nine_counts (counts_at n (get_or all k d) r i)) + times < 2 ^ 32 → RunOn times before (counts_at n (get_or all k d) r i) (counts_at n new r i))
+    → ((n : Numbering) (r i waits : ℕ) (c : ByVerdict) → IsWithin (4 * pattern.frame.groups) n → i < n.size → sum (nine_counts c) + times < 2 ^ 32 → HasHad n (get_or all k d) r i waits c
+    → HasHad n new r i waits (with_delays times (last_at n (get_or all k d) r) i c))
     → counted_in new ≡ counted_in (get_or all k d) → HasRepeated pattern times (get_or all k new) new
 repeated-here pattern times all k d new inside counts cycles = subst (λ (old : Counts). HasRepeated pattern times old new) (get_or_default all k d new inside) (record {
-  counts = λ r i before l same small. counts (channels_of pattern.table.ports) r i before (all-within pattern) l same small;
+  counts = λ r i waits had l small is. counts (channels_of pattern.table.ports) r i waits had (all-within pattern) l small is;
   cycles = cycles;
 })

@@ -4,13 +4,14 @@ use Rattle.std.specs.Prelude.{◌⊎◌, ◌&&◌, ◌||◌, nat_le, nat_lt, sli
 use Rattle.std.proofs.lemmas.Bool.{and_parts, cases_eq, cases_lt, eq-eqb, false≢true, ltb-true, ne_eqb}
 use Rattle.std.proofs.lemmas.Nat.{mod_below, mul-add-lt}
 use Rattle.std.proofs.lemmas.Option.{slice_get_within}
+use Rattle.noc_topo.specs.Lists.{one_if}
 use Rattle.noc_topo.specs.Shape.{Grid, local_port, neighbour, nodes, ports}
 use Rattle.noc_topo.proofs.LinkLemmas.{link_back}
 use Rattle.noc_packet.specs.Set.{has_bit}
 use Rattle.noc_packet.proofs.SetLemmas.{has_bit-zero}
 use Rattle.noc_route.specs.Routes.{Routes}
 use Rattle.noc_alloc.specs.Members.{MembersAreBelow}
-use Rattle.noc_sets.specs.Counts.{with_verdicts}
+use Rattle.noc_sets.specs.Counts.{ByVerdict}
 use Rattle.noc_sets.specs.Cycle.{Links as Left, Router, Turn}
 use Rattle.noc_sets.specs.Layout.{Layout}
 use Rattle.noc_sets.specs.Unions.{some_below}
@@ -26,8 +27,7 @@ use Rattle.noc_columns.specs.Words.{word}
 use Rattle.noc_columns.specs.declared.channels.Links.{Links}
 use Rattle.noc_columns.specs.declared.due.TheConstants.{NEVER}
 use Rattle.noc_columns.specs.declared.ports.RouterPorts.{RouterPorts}
-use Rattle.noc_counts.specs.Counts.{counted_in}
-use Rattle.noc_counts.specs.Told.{told_at}
+use Rattle.noc_counts.specs.Counts.{HasDelayed, HasHad, counted_in}
 use Rattle.noc_counts.specs.declared.counts.Counts.{Counts}
 use Rattle.noc_cycles.specs.Concluding.{HaveArrived}
 use Rattle.noc_cycles.specs.Gathered.{left_by}
@@ -328,10 +328,15 @@ module _ (net : Setup) (relation : Routes) (plan : Plan) (n : ℕ) (words : ℕ 
               subst (λ (p : ℕ → ℕ). ShowsTurn pattern (record (held_at all block r) { packet = p }) turn) (sym one.marks.packet) one;
           packets = λ r i l known u. ap (λ (f : ℕ → ℕ). f i) (turned-one.packets r l) ∙ sym (none-heard net n (64 * (first + b) + r) i (numbers_in net layout n (words (64 * (first + b) + r)) i));
           counted = λ r i l u.
-              turned-one.counted r i l u
-              ∙ ap (with_verdicts (told_at (channels_of all) block work r) i) (old-shown.2.counted r i l u)
-              ∙ sym (count-one.counts r i u few-counted);
-          last = λ r i l u. turned-one.counted r i l u ∙ ap (λ t. with_verdicts t i ((words (64 * (first + b) + r)).counts i)) (sym (count-one.last r few-counted));
+              subst (HasHad (channels_of all) count r i (one_if (has_bit (turns (64 * (first + b) + r)).column.waiting i))) (sym (turned-one.counted r i l u))
+              (count-one.counts r i _ _ _ u few-counted (turned-one.waits r i l) (old-shown.2.counted r i l u));
+          last = λ r i l u.
+              let told = turned-one.counted r i l u in
+              subst (λ d. HasDelayed d i ((words (64 * (first + b) + r)).counts i) ((turns (64 * (first + b) + r)).counts i)) (sym (count-one.last r few-counted)) (record {
+                no_flit = ap (λ (c : ByVerdict). c.no_flit) told;
+                no_idle_channel = ap (λ (c : ByVerdict). c.no_idle_channel) told;
+                no_credit = ap (λ (c : ByVerdict). c.no_credit) told;
+              });
           few = let most = old-shown.2.few in let cycles = count-one.cycles in omega (arith, most, cycles);
           punctual = turned-one.punctual;
         }

@@ -7,6 +7,7 @@ use Rattle.noc_packet.specs.Set.{has_bit}
 use Rattle.noc_packet.proofs.SetLemmas.{either_members, has_bit-zero}
 use Rattle.noc_sets.specs.Grants.{asked_of}
 use Rattle.noc_sets.specs.Counts.{with_verdicts}
+use Rattle.noc_topo.specs.Lists.{one_if}
 use Rattle.noc_topo.specs.Shape.{nodes}
 use Rattle.noc_alloc.specs.Members.{MembersAreBelow}
 use Rattle.noc_route.specs.Routes.{Routes}
@@ -37,9 +38,11 @@ use Rattle.noc_columns.specs.declared.channels.Decided.{Decided}
 use Rattle.noc_columns.specs.declared.channels.Standing.{Standing}
 use Rattle.noc_columns.specs.declared.channels.Verdicts.{Verdicts}
 use Rattle.noc_counts.specs.Findings.{finding_of, outs_of}
+use Rattle.noc_counts.specs.Counts.{WaitsOn}
 use Rattle.noc_counts.specs.Told.{told_at}
 use Rattle.noc_counts.proofs.DecidedLemmas.{asks-for-granted, is-told, shows-found}
 use Rattle.noc_counts.proofs.FoundLemmas.{found-is}
+use Rattle.noc_counts.proofs.VerdictLemmas.{waits-on}
 use Rattle.noc_counts.proofs.WantedLemmas.{all-wanted, was-waiting}
 use Rattle.noc_cycles.specs.Concluding.{HasConcludedHeld, decided_at, standing_at, verdicts_at}
 use Rattle.noc_cycles.specs.Deciding.{HasDecidedHeld}
@@ -138,6 +141,7 @@ pub record IsTurned (net : Setup) (pattern : Pattern) (layout : Layout) (n node 
   pub arrived : set_of (channels_of pattern.table.ports) r work.arrived ≡ t.arrived
   pub told : Tells net.relation.grid net.relation.vcs node (set_of (channels_of pattern.table.ports) r block.grants.granted) (port_in pattern.table.ports block r) (vc_in pattern.table.ports block r) (packet_in block.packets r) (tells_in net layout n b t)
   pub counted : (i : ℕ) → t.counts i ≡ with_verdicts (told_at (channels_of pattern.table.ports) block work r) i (b.counts i)
+  pub waits : (i : ℕ) → WaitsOn (told_at (channels_of pattern.table.ports) block work r) i (one_if (has_bit b.column.waiting i)) (one_if (has_bit t.column.waiting i))
   pub found : (i : ℕ) → t.found i ≡ found_at pattern block work r i
   pub happened : t.happened ≡ happens
 
@@ -148,7 +152,7 @@ module _ (count : ℕ) (net : Setup) (layout : Layout) (pattern : Pattern) (n no
     (standing_at pattern.table.ports w1.standing r) (decided_at pattern.table.ports w2.decided r) (set_of (channels_of pattern.table.ports) r b2.grants.granted) (set_of (channels_of pattern.table.ports) r w2.lost) (links_at pattern.table.ports sent r))
     (concludes : HasConcludedHeld pattern (standing_at pattern.table.ports w2.standing r) (decided_at pattern.table.ports w2.decided r) (set_of (channels_of pattern.table.ports) r b2.grants.granted) (links_at pattern.table.ports gone r)
     (set_of (channels_of pattern.table.ports) r w3.arrived) (held_at pattern.table.ports b2 r) (held_at pattern.table.ports b3 r) (verdicts_at pattern.table.ports w2.verdicts r) (verdicts_at pattern.table.ports w3.verdicts r))
-    (deciding_block : b2 ≡ record b1 { grants = b2.grants; marks = b2.marks; switch = b2.switch }) (deciding_work : w2 ≡ record w1 { decided = w2.decided; lost = w2.lost })
+    (deciding_block : b2 ≡ record b1 { grants = b2.grants; marks = b2.marks; switch = b2.switch }) (deciding_work : w2 ≡ record w1 { decided = w2.decided; lost = w2.lost; picks = w2.picks })
     (concluding_block : b3 ≡ record b2 { inputs = b3.inputs; outputs = b3.outputs; marks = b3.marks })
     (concluding_work : w3 ≡ record w2 { verdicts = w3.verdicts; arrived = w3.arrived; leaving = w3.leaving }) (concluding_left : gone ≡ record sent { credits = gone.credits }) where
   abbrev ports : RouterPorts
@@ -250,6 +254,15 @@ module _ (count : ℕ) (net : Setup) (layout : Layout) (pattern : Pattern) (n no
       (all b3.grants.granted) (all w3.lost) (all w3.arrived) (links_at ports sent r) (links_at ports gone r) (verdicts_at ports w2.verdicts r) (verdicts_at ports w3.verdicts r) taken.shows decided concluded may-decide.apart
       may-decide.waiting may-decide.idle wanted i)
 
+  -- who waited or is a head is granted an output channel or waits then
+  waits : (i : ℕ) → WaitsOn (told_at (channels_of pattern.table.ports) b3 w3 r) i (one_if (has_bit b.column.waiting i)) (one_if (has_bit worked.turn.column.waiting i))
+  waits i =
+      let still = still_of layout (all_starts net) n takes.up b in
+      waits-on still.filled still.column (standing_at ports w3.standing r) (decided_at ports w3.decided r) (verdicts_at ports w3.verdicts r) (all b3.inputs.waiting) (all b3.grants.granted) (all w3.lost)
+      (is-told pattern layout sets still (held_at ports b1 r) (held_at ports b2 r) (standing_at ports w3.standing r) (decided_at ports w3.decided r) (all b3.grants.granted) (all w3.lost) (all w2.verdicts.no_credit) (links_at ports sent r)
+      taken.shows decided (verdicts_at ports w2.verdicts r) (verdicts_at ports w3.verdicts r) (held_at ports b3 r) (all w3.arrived) (links_at ports gone r) refl concluded) i
+      ∙ (λ x. one_if (has_bit (all b3.grants.granted) i) + one_if (has_bit (sym worked.shows.column x).waiting i))
+
   pub router-turned : (t : Turn) × IsTurned net pattern layout n node r b b3 w3 gone happens t
   router-turned = (
     worked.turn,
@@ -263,6 +276,7 @@ module _ (count : ℕ) (net : Setup) (layout : Layout) (pattern : Pattern) (n no
           (tells_in net layout n b worked.turn))
           tells;
       counted = worked.counted;
+      waits = waits;
       found = found;
       happened = worked.happened;
     },
@@ -376,7 +390,7 @@ module _ (net : Setup) (relation : Routes) (plan : Plan) (n b : ℕ) (words : �
         (concludes : (r : ℕ) → r < 64
         → HasConcludedHeld pattern_is (standing_at all_ports w2.standing r) (decided_at all_ports w2.decided r) (set_of (channels_of all_ports) r b2.grants.granted) (links_at all_ports gone r) (set_of (channels_of all_ports) r w3.arrived)
         (held_at all_ports b2 r) (held_at all_ports b3 r) (verdicts_at all_ports w2.verdicts r) (verdicts_at all_ports w3.verdicts r))
-        (deciding_block : b2 ≡ record b1 { grants = b2.grants; marks = b2.marks; switch = b2.switch }) (deciding_work : w2 ≡ record w1 { decided = w2.decided; lost = w2.lost })
+        (deciding_block : b2 ≡ record b1 { grants = b2.grants; marks = b2.marks; switch = b2.switch }) (deciding_work : w2 ≡ record w1 { decided = w2.decided; lost = w2.lost; picks = w2.picks })
         (concluding_block : b3 ≡ record b2 { inputs = b3.inputs; outputs = b3.outputs; marks = b3.marks })
         (concluding_work : w3 ≡ record w2 { verdicts = w3.verdicts; arrived = w3.arrived; leaving = w3.leaving }) (concluding_left : gone ≡ record sent { credits = gone.credits }) (punctual : IsPunctual n all_ports b1)
         (leaving : w3.leaving ≡ 0 → (r : ℕ) → set_of (channels_of all_ports) r w3.arrived ≡ 0)
@@ -423,6 +437,7 @@ module _ (net : Setup) (relation : Routes) (plan : Plan) (n b : ℕ) (words : �
               (block-taken r l) (decided-by-all r l) (concludes r l) deciding_block deciding_work concluding_block concluding_work concluding_left k e;
           told = λ r l. (chosen.1 r l).told;
           counted = λ r i l m. (chosen.1 r l).counted i;
+          waits = λ r i l. (chosen.1 r l).waits i;
           found = λ r i l. (chosen.1 r l).found i;
           happened_is = something ∙ some-same 64 happening (λ r. (chosen.0 (64 * b + r)).happened) (λ r l. sym (chosen.1 r l).happened);
           punctual = still-punctual n all_ports b1 b2 b3 deciding_block concluding_block punctual;

@@ -2,6 +2,8 @@
 use Rattle.std.proofs.Common.{◌≡◌, ◌≢◌, ℕ, ◌+◌, ◌*◌, ◌/◌, ◌<◌, Bool, false, List, [], Some, None, length, get_or-set_other, get_or-set_same, set as write, ap, ap₂, sym, ◌∙◌, subst, refl, arith, inl, inr}
 use Rattle.std.specs.Prelude.{◌⊎◌, ◌||◌, slice_get, nat_eq, if◌then◌else◌}
 use Rattle.std.proofs.lemmas.Bool.{cases_eq, eq-eqb, ne_eqb}
+use Rattle.noc_topo.specs.Lists.{one_if}
+use Rattle.noc_packet.specs.Set.{has_bit}
 use Rattle.noc_view.specs.Found.{empty_finding}
 use Rattle.noc_sets.specs.Counts.{with_verdicts}
 use Rattle.noc_sets.specs.Cycle.{Router, Turn}
@@ -13,6 +15,7 @@ use Rattle.noc_columns.specs.Heads.{packet_in}
 use Rattle.noc_columns.specs.Picks.{channels_of}
 use Rattle.noc_columns.specs.Words.{set_of}
 use Rattle.noc_columns.specs.declared.channels.Links.{Links}
+use Rattle.noc_counts.specs.Counts.{WaitsOn}
 use Rattle.noc_counts.specs.Told.{told_at}
 use Rattle.noc_cycles.specs.Gathered.{ShowsLeft, left_by}
 use Rattle.noc_cycles.specs.Held.{held_at, links_at}
@@ -66,6 +69,7 @@ turned-same net plan n b words t u block work left happened same has =
           subst (λ (x : Turn). Tells net.relation.grid net.relation.vcs (64 * b + r) (set_of (channels_of ports) r block.grants.granted) (port_in ports block r) (vc_in ports block r) (packet_in block.packets r) (tells_in net (layout_of plan.pattern) n (words (64 * b + r)) x))
           (same r l) (has.told r l);
       counted = λ r i l m. subst (λ (x : Turn). x.counts i ≡ with_verdicts (told_at (channels_of ports) block work r) i ((words (64 * b + r)).counts i)) (same r l) (has.counted r i l m);
+      waits = λ r i l. subst (λ (x : Turn). WaitsOn (told_at (channels_of ports) block work r) i (one_if (has_bit (words (64 * b + r)).column.waiting i)) (one_if (has_bit x.column.waiting i))) (same r l) (has.waits r i l);
       found = λ r i l. sym (ap (λ (x : Turn). x.found i) (same r l)) ∙ has.found r i l;
       happened_is = refl;
       punctual = has.punctual;

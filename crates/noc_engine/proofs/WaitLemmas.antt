@@ -1,11 +1,15 @@
 -- Cycles that are like the last one, in which nothing happened: what a network of blocks shows after
 -- as many of them.
-use Rattle.std.proofs.Common.{◌≡◌, ◌≢◌, ℕ, suc, ◌+◌, ◌-◌, ◌*◌, ◌/◌, ◌%◌, ◌<◌, ◌≤◌, Vec, Global, length, Option, Some, None, refl, ap, ap₂, sym, ◌∙◌, subst, add-one, arith}
-use Rattle.std.specs.Prelude.{slice_get, sum}
+use Rattle.std.proofs.Common.{◌≡◌, ◌≢◌, ℕ, suc, ◌+◌, ◌-◌, ◌*◌, ◌/◌, ◌%◌, ◌<◌, ◌≤◌, Vec, Global, length, Option, Some, None, refl, ap, ap₂, sym, ◌∙◌, subst, add-one, add-zero, arith, inl, inr}
+use Rattle.std.specs.Prelude.{◌⊎◌, nat_lt, slice_get, sum, if◌then◌else◌}
+use Rattle.std.proofs.lemmas.Bool.{cases_lt, le-ltb, lt-ltb}
 use Rattle.std.proofs.lemmas.Nat.{mod_below}
 use Rattle.std.proofs.lemmas.Option.{slice_get_within}
+use Rattle.noc_topo.specs.Lists.{one_if}
 use Rattle.noc_topo.specs.Shape.{nodes}
-use Rattle.noc_sets.specs.Counts.{ByVerdict, RunOn, nine_counts, no_counts, with_verdicts}
+use Rattle.noc_packet.specs.Set.{has_bit}
+use Rattle.noc_packet.proofs.SetLemmas.{has_bit-zero}
+use Rattle.noc_sets.specs.Counts.{ByVerdict, RunOn, nine_counts, no_counts}
 use Rattle.noc_sets.specs.Cycle.{Router}
 use Rattle.noc_sets.specs.Source.{Source}
 use Rattle.noc_theory.specs.Lockstep.{view_at, view_in}
@@ -15,7 +19,7 @@ use Rattle.noc_theory_bits.proofs.bits.NetworkLemmas.{network-own}
 use Rattle.noc_theory_bits.proofs.stuck.WaitLemmas.{network-waits}
 use Rattle.noc_columns.specs.Picks.{channels_of}
 use Rattle.noc_columns.specs.declared.ports.RouterPorts.{RouterPorts}
-use Rattle.noc_counts.specs.Counts.{counts_at, last_at}
+use Rattle.noc_counts.specs.Counts.{Delays, HasDelayed, HasHad, last_at, with_delays, word_counts}
 use Rattle.noc_counts.specs.declared.counts.Counts.{Counts}
 use Rattle.noc_cycles.specs.Held.{held_at, links_at}
 use Rattle.noc_cycles.specs.declared.block.Block.{Block}
@@ -30,13 +34,18 @@ use Rattle.noc_engine.specs.declared.engine.Engine.{Engine}
 use Rattle.noc_engine.specs.declared.plan.Plan.{Plan}
 use Rattle.noc_engine.specs.declared.tile.Tile.{Tile}
 use Rattle.noc_engine.proofs.ListLemmas.{block-of, place-of, there}
-use Rattle.noc_engine.proofs.ReaderLemmas.{counted-word, sizes}
+use Rattle.noc_engine.proofs.ReaderLemmas.{sizes}
 use Rattle.noc_engine.proofs.WholeLemmas.{in-block, network-shown, next-shown, number-is}
 
--- what was counted of a channel, if anything was
+-- which channels waited in the last cycle, if anything was counted
+abbrev last_or : RouterPorts → Option Counts → ℕ → Delays
+last_or ports None r = record { no_flit = 0; no_idle_channel = 0; no_credit = 0 }
+last_or ports (Some c) r = last_at (channels_of ports) c r
+
+-- what was counted of a channel that does not wait
 abbrev counted_or : RouterPorts → Option Counts → ℕ → ℕ → ByVerdict
 counted_or ports None r i = no_counts
-counted_or ports (Some c) r i = counts_at (channels_of ports) c r i
+counted_or ports (Some c) r i = let counts = word_counts c ((channels_of ports).index i) r in record counts { granted = counts.routed }
 
 -- no channel was counted more often than there were cycles
 module _ (net : Setup) (n : ℕ) (words : ℕ → Router) (all : Engine) (shows : ShowsAt net n words all) where
@@ -64,15 +73,15 @@ module _ (net : Setup) (n most : ℕ) (is : Engine) (just : HasJustRun net n mos
 
   -- what was counted in it
   counted-here : (b r i : ℕ) (c : Counts) → slice_get is.tile.counts.items b ≡ Some c → r < 64 → i < (ports.links.width + 1) * ports.links.vcs
-      → (just.next (64 * (is.tile.first + b) + r)).counts i ≡ with_verdicts (last_at (channels_of ports) c r) i ((just.words (64 * (is.tile.first + b) + r)).counts i)
+      → HasDelayed (last_at (channels_of ports) c r) i ((just.words (64 * (is.tile.first + b) + r)).counts i) ((just.next (64 * (is.tile.first + b) + r)).counts i)
   counted-here = subst
       (λ (p : Plan). (b r i : ℕ) (c : Counts) → slice_get is.tile.counts.items b ≡ Some c → r < 64 → i < (p.pattern.table.ports.links.width + 1) * p.pattern.table.ports.links.vcs
-      → (just.next (64 * (is.tile.first + b) + r)).counts i ≡ with_verdicts (last_at (channels_of p.pattern.table.ports) c r) i ((just.words (64 * (is.tile.first + b) + r)).counts i))
+      → HasDelayed (last_at (channels_of p.pattern.table.ports) c r) i ((just.words (64 * (is.tile.first + b) + r)).counts i) ((just.next (64 * (is.tile.first + b) + r)).counts i))
       (sym just.stepped.plan_stays) just.stepped.tile.counted
 
   counted-last : (b r i : ℕ) (c : Counts) → slice_get is.tile.counts.items b ≡ Some c → r < 64 → i < (ports.links.width + 1) * ports.links.vcs
-      → (just.next (64 * b + r)).counts i ≡ with_verdicts (last_at (channels_of ports) c r) i ((just.words (64 * b + r)).counts i)
-  counted-last b r i c at l u = subst (λ k. (just.next (64 * k + r)).counts i ≡ with_verdicts (last_at (channels_of ports) c r) i ((just.words (64 * k + r)).counts i)) (number b) (counted-here b r i c at l u)
+      → HasDelayed (last_at (channels_of ports) c r) i ((just.words (64 * b + r)).counts i) ((just.next (64 * b + r)).counts i)
+  counted-last b r i c at l u = subst (λ k. HasDelayed (last_at (channels_of ports) c r) i ((just.words (64 * k + r)).counts i) ((just.next (64 * k + r)).counts i)) (number b) (counted-here b r i c at l u)
 
   -- before and after it
   before : ShowsNetwork (bits_of pattern) net n (words_in just.words just.was.tile)
@@ -95,8 +104,24 @@ module _ (net : Setup) (n most : ℕ) (is : Engine) (just : HasJustRun net n mos
     abbrev pub later : Engine
     later = record is { tile = waited }
 
-    abbrev then : ℕ → Router
-    then s = record (just.next s) { counts = λ i. counted_or ports (slice_get counts.items (s / 64)) (s % 64) i }
+    -- what was counted of a router by then
+    abbrev delayed_or : Option Counts → ℕ → ℕ → ℕ → ByVerdict
+    delayed_or old r s i = with_delays times (last_or ports old r) i ((just.next s).counts i)
+
+    abbrev then_counted : ℕ → ℕ → ByVerdict
+    then_counted s i = if nat_lt s (nodes net.relation.grid) then delayed_or (slice_get is.tile.counts.items (s / 64)) (s % 64) s i else counted_or ports (slice_get counts.items (s / 64)) (s % 64) i
+
+    abbrev words_then : ℕ → Router
+    words_then s = record (just.next s) { counts = then_counted s }
+
+    -- .. of one of the network, and of one that it does not have
+    then-known : (s i : ℕ) → s < nodes net.relation.grid → then_counted s i ≡ delayed_or (slice_get is.tile.counts.items (s / 64)) (s % 64) s i
+    then-known s i l =
+        ap (λ b. if b then delayed_or (slice_get is.tile.counts.items (s / 64)) (s % 64) s i else counted_or ports (slice_get counts.items (s / 64)) (s % 64) i) (lt-ltb s (nodes net.relation.grid) l)
+
+    then-absent : (s i : ℕ) → nodes net.relation.grid ≤ s → then_counted s i ≡ counted_or ports (slice_get counts.items (s / 64)) (s % 64) i
+    then-absent s i u =
+        ap (λ b. if b then delayed_or (slice_get is.tile.counts.items (s / 64)) (s % 64) s i else counted_or ports (slice_get counts.items (s / 64)) (s % 64) i) (le-ltb s (nodes net.relation.grid) u)
 
     block-at : (b : ℕ) → b < length is.tile.blocks.items → (x : Block) × (slice_get is.tile.blocks.items b ≡ Some x)
     block-at b l = there is.tile.blocks.items b l
@@ -107,29 +132,31 @@ module _ (net : Setup) (n most : ℕ) (is : Engine) (just : HasJustRun net n mos
     old-at : (b : ℕ) → b < length is.tile.blocks.items → (c : Counts) × (slice_get is.tile.counts.items b ≡ Some c)
     old-at b l = there is.tile.counts.items b (let same = shows-is.tile.lists.counts_are in omega (arith, l, same))
 
-    new-at : (b : ℕ) → b < length is.tile.blocks.items → (c : Counts) × (slice_get counts.items b ≡ Some c)
-    new-at b l = there counts.items b (let same = shows-is.tile.lists.counts_are in omega (arith, l, same, long))
-
-    runs-on : (s i : ℕ) → s < nodes net.relation.grid → i < size net → RunOn times ((just.words s).counts i) ((just.next s).counts i) ((then s).counts i)
+    runs-on : (s i : ℕ) → s < nodes net.relation.grid → i < size net → RunOn times ((just.words s).counts i) ((just.next s).counts i) ((words_then s).counts i)
     runs-on s i l u =
         let b = s / 64 in
         let r = s % 64 in
         let inside = in-block net (n + 1) just.next is shows-is s l in
         let old = old-at b inside in
-        let new = new-at b inside in
         let low : r < 64 = mod_below s 64 (omega arith) in
         let channel : i < (ports.links.width + 1) * ports.links.vcs = subst (λ m. i < m) (sizes net (n + 1) just.next is shows-is) u in
         let whole : 64 * (s / 64) + s % 64 ≡ s = omega arith in
-        let counted : (just.next s).counts i ≡ counts_at (channels_of ports) old.0 r i = counted-word net (n + 1) just.next is shows-is s i old.0 l u old.1 in
-        let told : (just.next s).counts i ≡ with_verdicts (last_at (channels_of ports) old.0 r) i ((just.words s).counts i) =
-        subst (λ t. (just.next t).counts i ≡ with_verdicts (last_at (channels_of ports) old.0 r) i ((just.words t).counts i)) whole (counted-last b r i old.0 old.1 low channel) in
-        let small : sum (nine_counts (counts_at (channels_of ports) old.0 r i)) ≤ n + 1 = subst (λ (c : ByVerdict). sum (nine_counts c) ≤ n + 1) counted (counted-few net (n + 1) just.next is shows-is s i l u) in
-        let limit = just.within in
-        let run = (repeats b old.0 new.0 old.1 new.1).counts r i ((just.words s).counts i) channel (sym counted ∙ told) (omega (arith, small, limit, few)) in
-        subst (λ (c : ByVerdict). RunOn times ((just.words s).counts i) c ((then s).counts i)) (sym counted)
-        (subst (λ (c : ByVerdict). RunOn times ((just.words s).counts i) (counts_at (channels_of ports) old.0 r i) c) (sym (ap (λ (o : Option Counts). counted_or ports o r i) new.1)) run)
+        let last = last_at (channels_of ports) old.0 r in
+        let told : HasDelayed last i ((just.words s).counts i) ((just.next s).counts i) =
+        subst (λ t. HasDelayed last i ((just.words t).counts i) ((just.next t).counts i)) whole (counted-last b r i old.0 old.1 low channel) in
+        subst (λ (c : ByVerdict). RunOn times ((just.words s).counts i) ((just.next s).counts i) c) (sym (then-known s i l ∙ ap (λ (o : Option Counts). delayed_or o r s i) old.1)) (record {
+          no_flit = record { by = one_if (has_bit last.no_flit i); once = told.no_flit; again = refl };
+          no_idle_channel = record { by = one_if (has_bit last.no_idle_channel i); once = told.no_idle_channel; again = refl };
+          no_credit = record { by = one_if (has_bit last.no_credit i); once = told.no_credit; again = refl };
+          routed = refl;
+          granted = refl;
+          moved = refl;
+          lost_channel = refl;
+          lost_input = refl;
+          lost_switch = refl;
+        })
 
-    has-waited : HasWaited net times (words_in just.words just.was.tile) (words_in just.next is.tile) (words_in then waited)
+    has-waited : HasWaited net times (words_in just.words just.was.tile) (words_in just.next is.tile) (words_in words_then waited)
     has-waited = record {
       counts = runs-on;
       rest = λ r l. refl;
@@ -158,12 +185,35 @@ module _ (net : Setup) (n most : ℕ) (is : Engine) (just : HasJustRun net n mos
     may-wait : MayWait net n (n + 1 + times) (words_in just.next is.tile)
     may-wait = record { quiet = λ e. quiet (e ∙ sym shows-is.tile.cycle); due = none-due }
 
-    shows-later : ShowsNetwork (bits_of pattern) net (n + 1 + times) (words_in then waited)
-    shows-later = network-waits net shows-is.good n times (n + 1 + times) (omega arith) (let most = just.within in omega (arith, most, few)) (words_in just.words just.was.tile) (words_in just.next is.tile) (words_in then waited) before after may-wait has-waited
+    shows-later : ShowsNetwork (bits_of pattern) net (n + 1 + times) (words_in words_then waited)
+    shows-later = network-waits net shows-is.good n times (n + 1 + times) (omega arith) (let most = just.within in omega (arith, most, few)) (words_in just.words just.was.tile) (words_in just.next is.tile) (words_in words_then waited) before after may-wait has-waited
 
     -- ---- a block then
+    -- what was counted of a router of it
+    counted-then : (b r i : ℕ) (block : Block) (work : Work) (old count : Counts) → slice_get is.tile.counts.items b ≡ Some old → slice_get counts.items b ≡ Some count → ShowsBlock net is.plan (n + 1) b just.next block work.came old → r < 64
+        → i < (ports.links.width + 1) * ports.links.vcs → (64 * b + r < nodes net.relation.grid) ⊎ (nodes net.relation.grid ≤ 64 * b + r)
+        → HasHad (channels_of ports) count r i (one_if (has_bit (just.next (64 * b + r)).column.waiting i)) (then_counted (64 * b + r) i)
+    counted-then b r i block work old count at on was l u (inl known) =
+        let s = 64 * b + r in
+        let waits = one_if (has_bit (just.next s).column.waiting i) in
+        let limit = just.within in
+        let few_counted = counted-few net (n + 1) just.next is shows-is s i known (subst (λ m. i < m) (sym (sizes net (n + 1) just.next is shows-is)) u) in
+        subst (HasHad (channels_of ports) count r i waits)
+        (sym (then-known s i known
+        ∙ ap₂ (λ x y. delayed_or (slice_get is.tile.counts.items x) y s i) (block-of b r l) (place-of b r l)
+        ∙ ap (λ (o : Option Counts). delayed_or o r s i) at))
+        ((repeats b old count at on).counts r i waits ((just.next s).counts i) u (omega (arith, few_counted, limit, few)) (was.counted r i l u))
+    counted-then b r i block work old count at on was l u (inr absent) =
+        let s = 64 * b + r in
+        let none : 0 ≡ one_if (has_bit (just.next s).column.waiting i) = sym (ap (λ w. one_if (has_bit w i)) ((was.routers r l).blank absent).waiting ∙ ap one_if (has_bit-zero i)) in
+        subst (HasHad (channels_of ports) count r i (one_if (has_bit (just.next s).column.waiting i)))
+        (sym (then-absent s i absent
+        ∙ ap₂ (λ x y. counted_or ports (slice_get counts.items x) y i) (block-of b r l) (place-of b r l)
+        ∙ ap (λ (o : Option Counts). counted_or ports o r i) on))
+        (subst (λ w. HasHad (channels_of ports) count r i w (counted_or ports (Some count) r i)) none (record { counted = refl; granted = sym (add-zero _) }))
+
     block-then : (b : ℕ) (block : Block) (work : Work) (count : Counts) → slice_get is.tile.blocks.items b ≡ Some block → slice_get is.tile.works.items b ≡ Some work → slice_get counts.items b ≡ Some count
-        → ShowsBlock net is.plan (n + 1 + times) b then block work.came count
+        → ShowsBlock net is.plan (n + 1 + times) b words_then block work.came count
     block-then b block work count at doing on =
         let old = there is.tile.counts.items b (let inside = slice_get_within counts.items b count on in omega (arith, inside, long)) in
         let was = block-now b block work old.0 at doing old.1 in
@@ -172,11 +222,11 @@ module _ (net : Setup) (n most : ℕ) (is : Engine) (just : HasJustRun net n mos
               let s = 64 * b + r in
               let node = was.routers r l in
               record {
-                held = counted-held pattern (held_at ports block r) (links_at ports work.came r) (just.next s) (then s) refl node.held;
+                held = counted-held pattern (held_at ports block r) (links_at ports work.came r) (just.next s) (words_then s) refl node.held;
                 shows = λ k. shows-later.routers s k;
-                blank = λ k. counted-blank (channels_count pattern) (just.next s) (then s) refl (node.blank k);
+                blank = λ k. counted-blank (channels_count pattern) (just.next s) (words_then s) refl (node.blank k);
               };
-          counted = λ r i l u. ap₂ (λ x y. counted_or ports (slice_get counts.items x) y i) (block-of b r l) (place-of b r l) ∙ ap (λ (o : Option Counts). counted_or ports o r i) on;
+          counted = λ r i l u. counted-then b r i block work old.0 count old.1 on was l u (cases_lt (64 * b + r) (nodes net.relation.grid));
           few = let same = (repeats b old.0 count old.1 on).cycles in let most = was.few in omega (arith, same, most);
           before = was.before;
           known = let known = was.known in omega (arith, known);
@@ -184,7 +234,7 @@ module _ (net : Setup) (n most : ℕ) (is : Engine) (just : HasJustRun net n mos
         }
 
     -- ---- the network shows the other one after them
-    tile-later : ShowsTile net is.plan (n + 1 + times) then waited
+    tile-later : ShowsTile net is.plan (n + 1 + times) words_then waited
     tile-later =
         let lists = shows-is.tile.lists in
         record {
@@ -198,13 +248,13 @@ module _ (net : Setup) (n most : ℕ) (is : Engine) (just : HasJustRun net n mos
             left_are = lists.left_are;
             arrivals_are = lists.arrivals_are;
           };
-          blocks = λ b block work count at doing on. subst (λ k. ShowsBlock net is.plan (n + 1 + times) k then block work.came count) (sym (number b)) (block-then b block work count at doing on);
-          shows = network-own net shows-is.good (has_router waited) (n + 1 + times) (words_in then waited) shows-later;
+          blocks = λ b block work count at doing on. subst (λ k. ShowsBlock net is.plan (n + 1 + times) k words_then block work.came count) (sym (number b)) (block-then b block work count at doing on);
+          shows = network-own net shows-is.good (has_router waited) (n + 1 + times) (words_in words_then waited) shows-later;
         }
 
     pub waits : ShowsRun net (n + 1 + times) later
     waits = (
-      then,
+      words_then,
       record {
         good = shows-is.good;
         tile = tile-later;

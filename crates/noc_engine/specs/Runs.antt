@@ -4,7 +4,7 @@ use Rattle.std.specs.List.{slice_get}
 use Rattle.noc_topo.specs.Shape.{nodes}
 use Rattle.noc_route.specs.Routes.{Routes}
 use Rattle.noc_view.specs.Found.{empty_finding, finding_at}
-use Rattle.noc_sets.specs.Counts.{ByVerdict, RunOn, nine_counts, with_verdicts}
+use Rattle.noc_sets.specs.Counts.{ByVerdict, nine_counts}
 use Rattle.noc_sets.specs.Cycle.{Router}
 use Rattle.noc_theory.specs.Good.{IsGoodSetup}
 use Rattle.noc_theory.specs.Lockstep.{findings_before}
@@ -13,7 +13,7 @@ use Rattle.noc_theory.specs.declared.limits.TheConstants.{CYCLE_LIMIT}
 use Rattle.noc_columns.specs.Picks.{channels_of}
 use Rattle.noc_columns.specs.declared.due.TheConstants.{NEVER}
 use Rattle.noc_columns.specs.declared.sets.TheConstants.{CHANNELS}
-use Rattle.noc_counts.specs.Counts.{counted_in, counts_at, last_at}
+use Rattle.noc_counts.specs.Counts.{HasHad, counted_in, last_at, with_delays}
 use Rattle.noc_counts.specs.declared.counts.Counts.{Counts}
 use Rattle.noc_cycles.specs.declared.block.Block.{Block}
 use Rattle.noc_cycles.specs.declared.pattern.Pattern.{Pattern}
@@ -44,13 +44,12 @@ pub record HasJustRun (net : Setup) (n most : ℕ) (all : Engine) : Type 0 where
 
 -- so many cycles more were counted of a block that are like the last one, in which nothing happened
 pub record HasRepeated (pattern : Pattern) (times : ℕ) (old new : Counts) : Type 0 where
-  pub counts : (r i : ℕ) (before : ByVerdict)
+  pub counts : (r i waits : ℕ) (c : ByVerdict)
       → i < (pattern.table.ports.links.width + 1) * pattern.table.ports.links.vcs
-      → counts_at (channels_of pattern.table.ports) old r i
-      ≡ with_verdicts (last_at (channels_of pattern.table.ports) old r) i before
-      → sum (nine_counts (counts_at (channels_of pattern.table.ports) old r i)) + times < 2 ^ 32
-      → RunOn times before (counts_at (channels_of pattern.table.ports) old r i)
-      (counts_at (channels_of pattern.table.ports) new r i)
+      → sum (nine_counts c) + times < 2 ^ 32
+      → HasHad (channels_of pattern.table.ports) old r i waits c
+      → HasHad (channels_of pattern.table.ports) new r i waits
+      (with_delays times (last_at (channels_of pattern.table.ports) old r) i c)
   pub cycles : counted_in new ≡ counted_in old
 
 -- the first time from now on at which a packet of any of these blocks comes to be due, NEVER where

@@ -1,7 +1,9 @@
 -- What the blocks of a network show: its state at a count of cycles.
 use Rattle.std.specs.Prelude.{◌≡◌, ℕ, ◌+◌, ◌*◌, ◌/◌, ◌^◌, ◌<◌, ◌≤◌, Bool, ◌&&◌, List, Option, Some, None, length, map, nat_eq, nat_le, nat_lt, slice_index, if◌then◌else◌}
 use Rattle.std.specs.List.{slice_get}
+use Rattle.noc_topo.specs.Lists.{one_if}
 use Rattle.noc_topo.specs.Shape.{nodes}
+use Rattle.noc_packet.specs.Set.{has_bit}
 use Rattle.noc_sets.specs.Cycle.{Router}
 use Rattle.noc_theory.specs.Good.{IsGoodSetup}
 use Rattle.noc_theory.specs.Network.{Setup}
@@ -13,7 +15,7 @@ use Rattle.noc_columns.specs.declared.channels.Links.{Links}
 use Rattle.noc_columns.specs.declared.due.TheConstants.{NEVER}
 use Rattle.noc_columns.specs.declared.sets.TheConstants.{CHANNELS}
 use Rattle.noc_columns.specs.declared.words.TheConstants.{ROUTERS}
-use Rattle.noc_counts.specs.Counts.{counted_in, counts_at}
+use Rattle.noc_counts.specs.Counts.{HasHad, counted_in}
 use Rattle.noc_counts.specs.declared.counts.Counts.{Counts}
 use Rattle.noc_cycles.specs.Around.{IsAround}
 use Rattle.noc_cycles.specs.Held.{held_at, links_at}
@@ -83,8 +85,9 @@ pub record ShowsBlock (net : Setup) (plan : Plan) (n b : ℕ) (words : ℕ → R
       (words (ROUTERS * b + r))
   pub counted : (r i : ℕ) → r < ROUTERS
       → i < (plan.pattern.table.ports.links.width + 1) * plan.pattern.table.ports.links.vcs
-      → (words (ROUTERS * b + r)).counts i
-      ≡ counts_at (channels_of plan.pattern.table.ports) counts r i
+      → HasHad (channels_of plan.pattern.table.ports) counts r i
+      (one_if (has_bit (words (ROUTERS * b + r)).column.waiting i))
+      ((words (ROUTERS * b + r)).counts i)
   pub few : counted_in counts ≤ n
   pub before : ℕ  -- a cycle of which it is known which packets are due
   pub known : before ≤ n

@@ -1,9 +1,10 @@
 -- A cycle of a tile, to which the other blocks near it tell what they have sent.
 use Rattle.std.specs.Prelude.{◌≡◌, ℕ, ◌+◌, ◌*◌, ◌/◌, ◌%◌, ◌<◌, ◌≤◌, Bool, true, false, ◌||◌, List, ◌++◌, Option, Some, None, length, unwrap_or, if◌then◌else◌}
 use Rattle.std.specs.List.{slice_get}
+use Rattle.noc_topo.specs.Lists.{one_if}
 use Rattle.noc_topo.specs.Shape.{local_port, neighbour, nodes}
+use Rattle.noc_packet.specs.Set.{has_bit}
 use Rattle.noc_route.specs.Routes.{Routes}
-use Rattle.noc_sets.specs.Counts.{with_verdicts}
 use Rattle.noc_sets.specs.Cycle.{Links as Left, Router, Turn}
 use Rattle.noc_theory.specs.Good.{IsGoodSetup}
 use Rattle.noc_theory.specs.Network.{Setup, size}
@@ -19,7 +20,7 @@ use Rattle.noc_columns.specs.declared.channels.Links.{Links}
 use Rattle.noc_columns.specs.declared.ports.RouterPorts.{RouterPorts}
 use Rattle.noc_columns.specs.declared.sets.TheConstants.{CHANNELS}
 use Rattle.noc_columns.specs.declared.words.TheConstants.{ROUTERS}
-use Rattle.noc_counts.specs.Counts.{counted_in, counts_at, last_at}
+use Rattle.noc_counts.specs.Counts.{HasDelayed, HasHad, counted_in, last_at}
 use Rattle.noc_counts.specs.declared.counts.Counts.{Counts}
 use Rattle.noc_cycles.specs.Gathered.{left_by}
 use Rattle.noc_cycles.specs.Held.{held_at}
@@ -101,13 +102,13 @@ pub record HasRunBlock (net : Setup) (plan : Plan) (n b : ℕ) (from : ℕ → B
       (numbers_in net (layout_of plan.pattern) n (words (ROUTERS * b + r)) i)
   pub counted : (r i : ℕ) → r < ROUTERS
       → i < (plan.pattern.table.ports.links.width + 1) * plan.pattern.table.ports.links.vcs
-      → (turns (ROUTERS * b + r)).counts i
-      ≡ counts_at (channels_of plan.pattern.table.ports) counts r i
+      → HasHad (channels_of plan.pattern.table.ports) counts r i
+      (one_if (has_bit (turns (ROUTERS * b + r)).column.waiting i))
+      ((turns (ROUTERS * b + r)).counts i)
   pub last : (r i : ℕ) → r < ROUTERS
       → i < (plan.pattern.table.ports.links.width + 1) * plan.pattern.table.ports.links.vcs
-      → (turns (ROUTERS * b + r)).counts i
-      ≡ with_verdicts (last_at (channels_of plan.pattern.table.ports) counts r) i
-      ((words (ROUTERS * b + r)).counts i)
+      → HasDelayed (last_at (channels_of plan.pattern.table.ports) counts r) i
+      ((words (ROUTERS * b + r)).counts i) ((turns (ROUTERS * b + r)).counts i)
   pub few : counted_in counts ≤ n + 1
   pub punctual : IsPunctual n plan.pattern.table.ports block
 
@@ -153,7 +154,7 @@ AreNear net tile from =
     → from (s / ROUTERS) ≡ true
 
 -- a tile, which was this, shows the next count after cycle n, by these words of its routers. Of each
--- block it is kept what was counted in the cycle, and which packets are due in it
+-- block it is kept which channels waited in the cycle, and which packets are due in it
 pub record HasStepped (net : Setup) (plan : Plan) (n : ℕ) (words next : ℕ → Router) (was is : Tile)
     : Type 0 where
   pub first_is : is.first ≡ was.first
@@ -162,9 +163,9 @@ pub record HasStepped (net : Setup) (plan : Plan) (n : ℕ) (words next : ℕ �
   pub counted : (b r i : ℕ) (counts : Counts) → slice_get is.counts.items b ≡ Some counts
       → r < ROUTERS
       → i < (plan.pattern.table.ports.links.width + 1) * plan.pattern.table.ports.links.vcs
-      → (next (ROUTERS * (is.first + b) + r)).counts i
-      ≡ with_verdicts (last_at (channels_of plan.pattern.table.ports) counts r) i
+      → HasDelayed (last_at (channels_of plan.pattern.table.ports) counts r) i
       ((words (ROUTERS * (is.first + b) + r)).counts i)
+      ((next (ROUTERS * (is.first + b) + r)).counts i)
   pub due : (b : ℕ) (block : Block) → slice_get is.blocks.items b ≡ Some block
       → AreDue n block.sources.due
 

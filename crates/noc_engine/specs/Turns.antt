@@ -1,5 +1,6 @@
 -- The turn of a block of a network in a cycle.
 use Rattle.std.specs.Prelude.{◌≡◌, ℕ, ◌+◌, ◌*◌, ◌<◌, ◌≤◌, ◌||◌, Bool, List, true, bit_or, length, nat_eq, not}
+use Rattle.noc_topo.specs.Lists.{one_if}
 use Rattle.noc_packet.specs.Set.{has_bit}
 use Rattle.noc_route.specs.Routes.{Routes}
 use Rattle.noc_sets.specs.Counts.{with_verdicts}
@@ -14,6 +15,7 @@ use Rattle.noc_columns.specs.Words.{set_of}
 use Rattle.noc_columns.specs.declared.channels.Links.{Links}
 use Rattle.noc_columns.specs.declared.ports.RouterPorts.{RouterPorts}
 use Rattle.noc_columns.specs.declared.words.TheConstants.{ROUTERS}
+use Rattle.noc_counts.specs.Counts.{WaitsOn}
 use Rattle.noc_counts.specs.Told.{told_at}
 use Rattle.noc_cycles.specs.Gathered.{ShowsLeft}
 use Rattle.noc_columns.specs.Heads.{packet_in}
@@ -91,6 +93,10 @@ pub record HasTurnedBlock (net : Setup) (plan : Plan) (n b : ℕ) (words : ℕ �
       → (turns (ROUTERS * b + r)).counts i
       ≡ with_verdicts (told_at (channels_of plan.pattern.table.ports) block work r) i
       ((words (ROUTERS * b + r)).counts i)
+  pub waits : (r i : ℕ) → r < ROUTERS
+      → WaitsOn (told_at (channels_of plan.pattern.table.ports) block work r) i
+      (one_if (has_bit (words (ROUTERS * b + r)).column.waiting i))
+      (one_if (has_bit (turns (ROUTERS * b + r)).column.waiting i))
   pub found : (r i : ℕ) → r < ROUTERS
       → (turns (ROUTERS * b + r)).found i
       ≡ found_at plan.pattern block work r i

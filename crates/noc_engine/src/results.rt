@@ -5,7 +5,7 @@ ghost use Rattle.noc_engine.specs.Prelude.{AreFindings, IsGoodSetup, Setup, Show
 
 use crate::engine::Engine;
 use noc_columns::{CHANNELS, NEVER, ROUTERS};
-use noc_view::Finding;
+use noc_view::{Finding, VERDICTS};
 
 impl Engine {
     /// The cycle in which the tail of a packet was out.
@@ -24,7 +24,7 @@ impl Engine {
     }
 
     /// How often an input channel of a router had each verdict, in the order of the stall report.
-    pub fn counts(&self, router: usize, port: usize, vc: usize) -> [u64; 10]
+    pub fn counts(&self, router: usize, port: usize, vc: usize) -> [u64; VERDICTS]
         requires { (net : Setup) × (n : ℕ) × ShowsRun net n self.now
             × (router < nodes net.relation.grid) × (port < ports net.relation.grid)
             × (vc < net.relation.vcs) }
@@ -35,8 +35,10 @@ impl Engine {
     {
         let table = &self.plan.pattern.table;
         let channel = port * table.ports.links.vcs + vc;
-        let counts = &self.tile.counts[router / ROUTERS];
-        counts.counts_of(table, router % ROUTERS, channel, self.tile.cycle)
+        let number = router / ROUTERS;
+        let block = &self.tile.blocks[number];
+        let counts = &self.tile.counts[number];
+        counts.counts_of(table, block, router % ROUTERS, channel, self.tile.cycle)
     }
 
     /// What a router has found in the last cycle, of each input channel, by port and virtual

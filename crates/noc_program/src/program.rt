@@ -80,9 +80,6 @@ fn print_answer<R: Print + AllocGlobal + Threads + Wait + Clock + Sync, W: Sink>
 fn print_version<R: Print, W: Sink>(rt: &R, errors: &mut W) -> ExitCode
     ensures { TellsVersion W.contents W.has_failed errors.old errors.new (exit_status result) }
 {
-    let ended = match write_version(&mut Out::new(io::writer(rt))) {
-        Ok(()) => Ok(Status::Done),
-        Err(fault) => Err(Fault::Write(fault)),
-    };
-    report(ended, errors)
+    let written = write_version(&mut Out::new(io::writer(rt)));
+    report(written.map(|()| Status::Done).map_err(Fault::Write), errors)
 }

@@ -1,3 +1,4 @@
 pub mod EndingLemmas
 pub mod AskedLemmas
 pub mod CheckLemmas
+pub mod FaultLemmas

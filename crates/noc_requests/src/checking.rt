@@ -75,10 +75,8 @@ fn accept_if_given(
         return Ok(());
     };
     let ranks = ranks_of(alloc, text, relation)?;
-    match check(rt, alloc, relation, &ranks) {
-        Ok(_) => Ok(()),
-        Err(fault) => Err(Fault::Rank(fault, *relation.shape())),
-    }
+    check(rt, alloc, relation, &ranks).map_err(|fault| Fault::Rank(fault, *relation.shape()))?;
+    Ok(())
 }
 
 // The ranks of a rank file, for the channels of a relation.
@@ -86,14 +84,10 @@ fn ranks_of(alloc: Global, text: Bytes<'_>, relation: &Relation) -> Result<Ranks
     ensures ranks { IfOk result (HasRanking relation.now (lent_text text.entry)) }
     ensures fault { IfErr result (Refuses (RanksFault relation.now (lent_text text.entry))) }
 {
-    let rows = match rank_rows_in(alloc, relation.shape(), text) {
-        Ok(rows) => rows,
-        Err(fault) => return Err(Fault::RankFile(fault)),
-    };
-    match Ranks::from_rows(alloc, relation.shape(), relation.vcs(), &rows) {
-        Ok(ranks) => Ok(ranks),
-        Err(fault) => Err(Fault::Rank(fault, *relation.shape())),
-    }
+    let shape = relation.shape();
+    let rows = rank_rows_in(alloc, shape, text).map_err(Fault::RankFile)?;
+    let ranks = Ranks::from_rows(alloc, shape, relation.vcs(), &rows);
+    ranks.map_err(|fault| Fault::Rank(fault, *shape))
 }
 
 // The rows that a rank file says.

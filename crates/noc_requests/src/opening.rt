@@ -47,14 +47,8 @@ fn network_of(
         (lent_text traffic.entry) n.net) }
     ensures fault { IfErr result (Refuses (PacketsFault relation (lent_text traffic.entry))) }
 {
-    let packets = match packets_in(alloc, traffic) {
-        Ok(packets) => packets,
-        Err(fault) => return Err(Fault::Traffic(fault)),
-    };
-    match Network::new(alloc, relation, depth, packets) {
-        Ok(network) => Ok(network),
-        Err(fault) => Err(Fault::Network(fault)),
-    }
+    let packets = packets_in(alloc, traffic).map_err(Fault::Traffic)?;
+    Network::new(alloc, relation, depth, packets).map_err(Fault::Network)
 }
 
 // The packets that a traffic text says.

@@ -11,10 +11,7 @@ use noc_net::Network;
 pub fn ended(written: Result<(), WriteFault>, status: Status) -> Result<Status, Fault>
     ensures { result ≡ ended written status }
 {
-    match written {
-        Ok(()) => Ok(status),
-        Err(fault) => Err(Fault::Write(fault)),
-    }
+    written.map(|()| status).map_err(Fault::Write)
 }
 
 /// How a run has ended.

@@ -30,10 +30,9 @@ pub fn relation_of(alloc: Global, files: &Files<'_>) -> Result<(Config, Relation
 {
     let Layout { config, shape } = layout_of(alloc, files)?;
     let rule = rule_of(alloc, config.rule, files.table, &shape)?;
-    match Relation::build(alloc, &shape, config.channels, config.classes, rule) {
-        Ok(relation) => Ok((config, relation)),
-        Err(fault) => Err(Fault::Relation(fault, shape)),
-    }
+    let built = Relation::build(alloc, &shape, config.channels, config.classes, rule);
+    let relation = built.map_err(|fault| Fault::Relation(fault, shape))?;
+    Ok((config, relation))
 }
 
 // The configuration and its shape, around which the options are looked at.
@@ -43,17 +42,11 @@ fn layout_of(alloc: Global, files: &Files<'_>) -> Result<Layout, Fault>
         (settings r.config) r.shape) }
     ensures fault { IfErr result (Refuses (SettingsFault (lent_files files.now))) }
 {
-    let config = match config_in(alloc, files.config) {
-        Ok(config) => config,
-        Err(fault) => return Err(Fault::Config(fault)),
-    };
+    let config = config_in(alloc, files.config).map_err(Fault::Config)?;
     if let Some(fault) = early_fault(files.command, files.table.is_some(), &config) {
         return Err(Fault::Option(fault));
     }
-    let shape = match Shape::new(config.kind, config.radix.as_slice()) {
-        Ok(shape) => shape,
-        Err(fault) => return Err(Fault::Shape(fault)),
-    };
+    let shape = Shape::new(config.kind, config.radix.as_slice()).map_err(Fault::Shape)?;
     match late_fault(files.command, &shape) {
         Some(fault) => Err(Fault::Option(fault)),
         None => Ok(Layout { config, shape }),
@@ -155,10 +148,9 @@ fn rule_of(
 {
     match (name.rule(), table) {
         (Some(rule), _) => Ok(rule),
-        (None, Some(text)) => match route_rows_in(alloc, shape, text) {
-            Ok(rows) => Ok(Rule::Rows(rows)),
-            Err(fault) => Err(Fault::Table(fault)),
-        },
+        (None, Some(text)) => route_rows_in(alloc, shape, text)
+            .map(Rule::Rows)
+            .map_err(Fault::Table),
         (None, None) => unreachable!(),
     }
 }

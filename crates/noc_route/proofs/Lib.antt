@@ -14,6 +14,7 @@ pub mod EnterLemmas
 pub mod RuleLemmas
 pub mod BuiltLemmas
 pub mod NoWayLemmas
+pub mod ListedLemmas
 pub mod ColumnLemmas
 pub mod PermitsLemmas
 pub mod RisingLemmas

@@ -9,5 +9,6 @@ pub mod Trimming
 pub mod Entered
 pub mod Built
 pub mod Gathering
+pub mod Listed
 pub mod Names
 pub mod Titles

@@ -1,5 +1,5 @@
 -- Routing rules, the entries that packets reach, and the routing relation.
-use Rattle.std.specs.Prelude.{◌≡◌, ◌≢◌, ℕ, ◌+◌, ◌-◌, ◌*◌, ◌/◌, ◌%◌, ◌<◌, Bool, true, false, ◌&&◌, ◌||◌, not, IsTrue, List, [], ◌∷◌, Option, Some, None, is_some, nat_eq, nat_lt, nat_le, slice_index, if◌then◌else◌, unwrap_or, All, Contains, ◌⊎◌}
+use Rattle.std.specs.Prelude.{◌≡◌, ◌≢◌, ℕ, ◌+◌, ◌*◌, ◌/◌, ◌%◌, ◌<◌, Bool, true, false, ◌&&◌, ◌||◌, not, IsTrue, List, [], ◌∷◌, Option, Some, None, is_some, nat_eq, nat_lt, nat_le, slice_index, if◌then◌else◌, unwrap_or, All, Contains, ◌⊎◌}
 use Rattle.std.specs.List.{list_any}
 use Rattle.noc_topo.specs.Lists.{is_some_of}
 use Rattle.noc_topo.specs.Shape.{Grid, coordinates, nodes, dimensions, is_plus, local_port, neighbour, distance}

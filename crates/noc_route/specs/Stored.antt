@@ -6,4 +6,4 @@ use Rattle.noc_route.specs.Trimming.{routes_in}
 
 abbrev pub routes_of : Inside → Routes
 routes_of r =
-    routes_in r.columns.sizes (table_of r.columns.sizes r.columns.sets.items r.columns.starts.items)
+    routes_in r.columns.sizes (table_of r.columns.sizes r.columns.sets r.columns.starts.items)

@@ -10,6 +10,7 @@ ghost use Rattle.noc_route.specs.Trimming.{left_in, IsFirstLeft};
 use crate::entered::Entered;
 use crate::gather::Departures;
 use crate::rule::Entry;
+use crate::set_list::SetList;
 use crate::sizes::Sizes;
 use crate::trim::leave_pair;
 use noc_packet::ChannelSet;
@@ -20,9 +21,9 @@ use std::alloc::{AllocError, Global};
 #[derive(Drop)]
 pub(crate) struct Columns {
     pub(crate) sizes: Sizes,
-    sets: Vec<ChannelSet>,
+    sets: SetList,
     starts: Vec<u32>,
-    ghost all: { AreColumns sizes starts.items (vec_len sets) },
+    ghost all: { AreColumns sizes starts.items (length sets) },
 }
 
 impl Columns {
@@ -36,7 +37,7 @@ impl Columns {
         requires { AreAll leaving.now.map.now.sizes entered.now }
         ensures sizes { IfOk result (λ made. made.0.sizes ≡ leaving.now.map.now.sizes) }
         ensures table { let f = leaving.now.map.now.sizes in
-            IfOk result (λ made. table_of f made.0.sets.items made.0.starts.items
+            IfOk result (λ made. table_of f made.0.sets made.0.starts.items
             ≡ left_in f (sets_in f entered.now) leaving.now.outs.now) }
         ensures first { let f = leaving.now.map.now.sizes in
             IfOk result (λ made. IsFirstLeft f (sets_in f entered.now) leaving.now.outs.now
@@ -57,7 +58,7 @@ impl Columns {
         let (sets, first) = kept?;
         let columns = Columns {
             sizes,
-            sets,
+            sets: SetList::of(alloc, sets)?,
             starts,
         };
         Ok((columns, first))
@@ -68,10 +69,10 @@ impl Columns {
         requires column { let f = self.now.sizes in
             column < nodes f.shape * f.classes * width f.shape f.vcs }
         requires dst { dst < nodes self.now.sizes.shape }
-        ensures { result ≡ slice_index self.now.sets.items
+        ensures { result ≡ slice_index self.now.sets
             (slice_index self.now.starts.items column + dst) }
     {
-        self.sets[self.starts[column] as usize + dst]
+        self.sets.at(self.starts[column] as usize + dst)
     }
 }
 

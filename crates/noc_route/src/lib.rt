@@ -13,6 +13,7 @@ mod named;
 mod relation;
 mod rows;
 mod rule;
+mod set_list;
 mod sizes;
 mod trim;
 

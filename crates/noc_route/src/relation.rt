@@ -124,7 +124,7 @@ fn columns_of(alloc: Global, fitting: &FittingRule) -> Result<Columns, RouteFaul
     ensures sizes { IfOk result (λ c. c.sizes ≡ fitting.now.map.now.sizes) }
     ensures exact { let f = fitting.now.map.now.sizes in
         MatchResult result (λ c. IsRelationOfRule (parts_of fitting.now) (routes_in f
-        (table_of f c.sets.items c.starts.items))) (IsFaultOf (parts_of fitting.now)) }
+        (table_of f c.sets c.starts.items))) (IsFaultOf (parts_of fitting.now)) }
 {
     let mut outs = vec![in alloc; ChannelSet::empty(); fitting.map.sizes.pages()]?;
     let entered = enter(alloc, fitting)?;
@@ -149,7 +149,7 @@ fn reached_columns(
     ensures sizes { IfOk result (λ c. c.sizes ≡ fitting.now.map.now.sizes) }
     ensures exact { let f = fitting.now.map.now.sizes in
         MatchResult result (λ c. IsRelationOfRule (parts_of fitting.now) (routes_in f
-        (table_of f c.sets.items c.starts.items))) (IsFaultOf (parts_of fitting.now)) }
+        (table_of f c.sets c.starts.items))) (IsFaultOf (parts_of fitting.now)) }
 {
     gather(fitting.map, entered, outs);
     let leaving = Departures {

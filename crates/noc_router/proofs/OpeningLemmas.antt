@@ -1,5 +1,5 @@
 -- A new router.
-use Rattle.std.proofs.Common.{◌≡◌, ℕ, ◌+◌, ◌-◌, ◌*◌, false, List, ◌++◌, length, map, take, None, ap, ◌∙◌, arith}
+use Rattle.std.proofs.Common.{◌≡◌, ℕ, ◌+◌, ◌-◌, ◌*◌, false, List, ◌++◌, Option, length, map, take, None, ap, ◌∙◌, arith}
 use Rattle.std.specs.Prelude.{replicate}
 use Rattle.std.specs.List.{zip}
 use Rattle.std.proofs.lemmas.List.{take-replicate}
@@ -26,7 +26,7 @@ last_port : (d vcs : ℕ) → (2 * d + 1) * vcs - 2 * d * vcs ≡ vcs
 last_port d vcs = let e : (2 * d + 1) * vcs ≡ 2 * d * vcs + 1 * vcs = add-mul (2 * d) 1 vcs in omega arith
 
 -- the view of a router none of whose parts has done anything
-pub opening-is : (node p vcs depth : ℕ) (shape : Grid) (source : Source) (channels : Channels) (to_put : List Beat) (tally : VerdictTally) (arbiters : Arbiters) (arrivals : Arrivals) (starts : List (ℕ × Packet)) (ends : List ℕ)
+pub opening-is : (node p vcs depth : ℕ) (shape : Grid) (source : Source) (channels : Channels) (to_put : List Beat) (tally : VerdictTally) (arbiters : Arbiters) (arrivals : Arrivals) (neighbours : List (Option (ℕ × ℕ))) (starts : List (ℕ × Packet)) (ends : List ℕ)
     → IsGrid shape → p ≡ ports shape → queue_of source ≡ starts → source.vc ≡ None
     → states_in channels ≡ opening_states (p * vcs) ((p - 1) * vcs) depth
     → to_put ≡ replicate 6 idle_beat
@@ -49,8 +49,9 @@ pub opening-is : (node p vcs depth : ℕ) (shape : Grid) (source : Source) (chan
       arbiters = arbiters;
       arrivals = arrivals;
       shape = shape;
+      neighbours = neighbours;
     }) ≡ opening_view (record { grid = shape; node = node; vcs = vcs; depth = depth }) starts ends
-opening-is node p vcs depth shape source channels to_put tally arbiters arrivals starts ends grid ps queue vc opened beats tally_empty sized ended =
+opening-is node p vcs depth shape source channels to_put tally arbiters arrivals neighbours starts ends grid ps queue vc opened beats tally_empty sized ended =
     let d : ℕ = length shape.radix in
     let before : p - 1 ≡ 2 * d = omega arith in
     let bank_is : channels.bank ≡ empty_buffers (ports shape * vcs) depth = ap (λ (s : ChannelStates). s.bank) opened ∙ ap (λ n. empty_buffers (n * vcs) depth) ps in

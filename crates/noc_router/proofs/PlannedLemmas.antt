@@ -1,6 +1,6 @@
 -- The decisions of a view, list by list.
-use Rattle.std.proofs.Common.{◌≡◌, ℕ, ◌+◌, ◌*◌, ◌≤◌, Bool, length, List, Option, None, ◌++◌, arith, drop, length-append, length-drop, replicate, take, ap, refl, sym, subst, ◌∙◌}
-use Rattle.std.proofs.lemmas.List.{length-replicate, take-replicate, take_at}
+use Rattle.std.proofs.Common.{◌≡◌, ℕ, ◌+◌, ◌*◌, ◌≤◌, Bool, length, List, Option, None, replicate, take, ap, refl, ◌∙◌}
+use Rattle.std.proofs.lemmas.List.{take-replicate}
 use Rattle.std.specs.Prelude.{is_some, slice_index, slice_index_or}
 use Rattle.noc_topo.specs.Lists.{is_some_of, tabulate}
 use Rattle.noc_topo.specs.Shape.{ports}
@@ -85,7 +85,7 @@ won-view v ready picks wins vcs many arbiters can same all are long picked is =
 abbrev pub parts : List (Option ℕ) → List (Option ℕ) → List (Option ℕ) → List (Option ℕ) → List Verdict → List ℕ → PlanContents
 parts grants picks wins asks verdicts routes = record { round = record { grants = grants; picks = picks; wins = wins }; asks = asks; verdicts = verdicts; routes = routes }
 
-planned-parts : (relation : Routes) (v : View) (grants picks wins asks : List (Option ℕ)) (verdicts : List Verdict) (routes : List ℕ)
+pub planned-parts : (relation : Routes) (v : View) (grants picks wins asks : List (Option ℕ)) (verdicts : List Verdict) (routes : List ℕ)
     → grants ≡ (view_round v).grants → picks ≡ (view_round v).picks → wins ≡ (view_round v).wins → asks ≡ asks_of (view_stands v)
     → verdicts ≡ tabulate (size_of v.site) (verdict_at (record { grants = grants; picks = picks; wins = wins }) v) → routes ≡ tabulate (size_of v.site) (route_of relation v)
     → parts grants picks wins asks verdicts routes ≡ plan_contents relation v
@@ -98,42 +98,6 @@ planned-parts relation v grants picks wins asks verdicts routes g p w a d r =
     ∙ ap (λ xs. parts xs picks wins (asks_of (view_stands v)) (tabulate n (verdict_at (record { grants = xs; picks = picks; wins = wins }) v)) (tabulate n (route_of relation v))) g
     ∙ ap (λ xs. parts (view_round v).grants xs wins (asks_of (view_stands v)) (tabulate n (verdict_at (record { grants = (view_round v).grants; picks = xs; wins = wins }) v)) (tabulate n (route_of relation v))) p
     ∙ ap (λ xs. parts (view_round v).grants (view_round v).picks xs (asks_of (view_stands v)) (tabulate n (verdict_at (record { grants = (view_round v).grants; picks = (view_round v).picks; wins = xs }) v)) (tabulate n (route_of relation v))) w
-
--- the same, where the lists are written at the beginning of longer ones
-pub planned-is : (relation : Routes) (v : View) (m n : ℕ) (grants picks wins asks : List (Option ℕ)) (verdicts : List Verdict) (routes : List ℕ) (g p w a : List (Option ℕ)) (d : List Verdict) (r : List ℕ)
-    → length grants ≡ n → length picks ≡ m → length wins ≡ m → length asks ≡ n → length verdicts ≡ n → length routes ≡ n
-    → grants ≡ (view_round v).grants → picks ≡ (view_round v).picks → wins ≡ (view_round v).wins → asks ≡ asks_of (view_stands v)
-    → verdicts ≡ tabulate (size_of v.site) (verdict_at (record { grants = take n (grants ++ g); picks = take m (picks ++ p); wins = take m (wins ++ w) }) v) → routes ≡ tabulate (size_of v.site) (route_of relation v)
-    → parts (take n (grants ++ g)) (take m (picks ++ p)) (take m (wins ++ w)) (take n (asks ++ a)) (take n (verdicts ++ d)) (take n (routes ++ r)) ≡ plan_contents relation v
-planned-is relation v m n grants picks wins asks verdicts routes g p w a d r lg lp lw la ld lr eg ep ew ea ed er =
-    let tg = take_at grants g n lg in
-    let tp = take_at picks p m lp in
-    let tw = take_at wins w m lw in
-    let verdict : List (Option ℕ) → List (Option ℕ) → List (Option ℕ) → List Verdict = λ x y z. tabulate (size_of v.site) (verdict_at (record { grants = x; picks = y; wins = z }) v) in
-    ap (λ xs. parts xs (take m (picks ++ p)) (take m (wins ++ w)) (take n (asks ++ a)) (take n (verdicts ++ d)) (take n (routes ++ r))) tg
-    ∙ ap (λ xs. parts grants xs (take m (wins ++ w)) (take n (asks ++ a)) (take n (verdicts ++ d)) (take n (routes ++ r))) tp
-    ∙ ap (λ xs. parts grants picks xs (take n (asks ++ a)) (take n (verdicts ++ d)) (take n (routes ++ r))) tw
-    ∙ ap (λ xs. parts grants picks wins xs (take n (verdicts ++ d)) (take n (routes ++ r))) (take_at asks a n la)
-    ∙ ap (λ xs. parts grants picks wins asks xs (take n (routes ++ r))) (take_at verdicts d n ld)
-    ∙ ap (λ xs. parts grants picks wins asks verdicts xs) (take_at routes r n lr)
-    ∙ planned-parts relation v grants picks wins asks verdicts routes eg ep ew ea
-    (ed ∙ ap (λ x. verdict x (take m (picks ++ p)) (take m (wins ++ w))) tg ∙ ap (λ y. verdict grants y (take m (wins ++ w))) tp ∙ ap (λ z. verdict grants picks z) tw) er
-
--- the beginning of a list of which nothing was written
-pub room : {X : Type 0} (n m : ℕ) (x : X) → n ≤ m → length (take n (replicate m x)) ≡ n
-room n m x l = ap length (take-replicate n m x l) ∙ length-replicate n x
-
--- a list is as long as before, where its beginning is written
-pub written : {X : Type 0} (n m : ℕ) (x : X) (xs : List X) → length xs ≡ n → n ≤ m → length (xs ++ drop n (replicate m x)) ≡ m
-written n m x xs long l = omega (arith, length-append xs (drop n (replicate m x)), length-drop n (replicate m x), length-replicate m x, long)
-
--- so much of it can be borrowed again
-pub reaches : {X : Type 0} (n m : ℕ) (x : X) (xs : List X) → length xs ≡ n → n ≤ m → n ≤ length (xs ++ drop n (replicate m x))
-reaches n m x xs long l = subst (λ k. n ≤ k) (sym (written n m x xs long l)) l
-
--- which is what was written
-pub count-written : {X : Type 0} (n : ℕ) (xs ys : List X) → length xs ≡ n → n ≡ length (take n (xs ++ ys))
-count-written n xs ys long = sym (ap (λ zs. length zs) (take_at xs ys n long) ∙ long)
 
 -- a plan in which nothing was written
 pub empty-plan : (m vcs set : ℕ) → m ≤ 7 → m * vcs ≤ 56 → set ≡ 0

@@ -27,4 +27,4 @@ take-flit n port vc f beats new e l =
 
 -- a router with other beats on its links
 pub relinked : (r : Inside) (beats : List Beat) → IsRouter r → length beats ≡ length r.to_put → IsRouter (record r { to_put = beats })
-relinked r beats h same = IsRouter-kept r (record r { to_put = beats }) h refl refl refl refl refl refl refl refl (λ i e. e) same refl refl refl
+relinked r beats h same = IsRouter-kept r (record r { to_put = beats }) h refl refl refl refl refl refl refl refl (λ i e. e) refl same refl refl refl

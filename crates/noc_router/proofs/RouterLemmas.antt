@@ -21,15 +21,16 @@ for_some P Q o f h = λ x e. f x (h x e)
 -- where the parts keep their sizes, and the input channels that await a flit still do
 pub IsRouter-kept : (r s : Inside) → IsRouter r → s.shape ≡ r.shape → s.node ≡ r.node → s.ports ≡ r.ports → s.vcs ≡ r.vcs → s.depth ≡ r.depth
     → s.source.vc ≡ r.source.vc → s.channels.size ≡ r.channels.size → s.channels.bank.capacity ≡ r.channels.bank.capacity
-    → KeepsAwaiting r.channels.inputs.items s.channels.inputs.items → length s.to_put ≡ length r.to_put
+    → KeepsAwaiting r.channels.inputs.items s.channels.inputs.items → s.neighbours ≡ r.neighbours → length s.to_put ≡ length r.to_put
     → length s.tally.counts ≡ length r.tally.counts → s.arbiters.ports ≡ r.arbiters.ports → s.arbiters.vcs ≡ r.arbiters.vcs → IsRouter s
-IsRouter-kept r s is shape node ports_same vcs depth vc size capacity keeps beats counts arbiter_ports arbiter_vcs =
+IsRouter-kept r s is shape node ports_same vcs depth vc size capacity keeps neighbours beats counts arbiter_ports arbiter_vcs =
     let all : r.ports * r.vcs ≡ s.ports * s.vcs = ap (λ n. n * r.vcs) (sym ports_same) ∙ ap (λ n. s.ports * n) (sym vcs) in
     let first : (r.ports - 1) * r.vcs ≡ (s.ports - 1) * s.vcs = ap (λ n. (n - 1) * r.vcs) (sym ports_same) ∙ ap (λ n. (s.ports - 1) * n) (sym vcs) in
     record {
       grid = subst (λ (g : Grid). IsGrid g) (sym shape) is.grid;
       node = rw (node, shape) is.node;
       ports = ports_same ∙ is.ports ∙ ap ports (sym shape);
+      neighbours = rw (shape, node, neighbours) is.neighbours;
       some_vc = rw vcs is.some_vc;
       few_vcs = rw vcs is.few_vcs;
       channels = size ∙ is.channels ∙ all;
@@ -53,13 +54,13 @@ local-index r vc is =
 pub IsRouter-misfit : (r : Inside) (channels : Channels) (n : ℕ) → IsRouter r → states_in channels ≡ states_in r.channels → IsRouter (record r { channels = channels; misfits = n })
 IsRouter-misfit r channels n is states =
     IsRouter-kept r (record r { channels = channels; misfits = n }) is refl refl refl refl refl refl (ap (λ (s : ChannelStates). s.size) states) (ap (λ (s : ChannelStates). s.bank.capacity) states)
-    (λ i h. ap (λ (s : ChannelStates). is_awaiting s.inputs i) states ∙ h) refl refl refl refl
+    (λ i h. ap (λ (s : ChannelStates). is_awaiting s.inputs i) states ∙ h) refl refl refl refl refl
 
 -- a router of which only channels change, and whether it had an event, is one still
 pub IsRouter-channels : (r : Inside) (channels : Channels) (happened : Bool) → IsRouter r → channels.size ≡ r.channels.size → channels.bank.capacity ≡ r.channels.bank.capacity
     → KeepsAwaiting r.channels.inputs.items channels.inputs.items → IsRouter (record r { channels = channels; had_event = happened })
 IsRouter-channels r channels happened is size capacity keeps =
-    IsRouter-kept r (record r { channels = channels; had_event = happened }) is refl refl refl refl refl refl size capacity keeps refl refl refl refl
+    IsRouter-kept r (record r { channels = channels; had_event = happened }) is refl refl refl refl refl refl size capacity keeps refl refl refl refl refl
 
 -- a router where a flit has come to an input channel of a link port is one still
 pub IsRouter-landed : (r : Inside) (channels : Channels) (i : ℕ) (flit : Flit) → IsRouter r → states_in channels ≡ states_after_land i flit (states_in r.channels) → i < (r.ports - 1) * r.vcs → IsRouter (record r { channels = channels; had_event = true })
@@ -67,6 +68,7 @@ IsRouter-landed r channels i flit is states link = record {
   grid = is.grid;
   node = is.node;
   ports = is.ports;
+  neighbours = is.neighbours;
   some_vc = is.some_vc;
   few_vcs = is.few_vcs;
   channels = ap (λ (s : ChannelStates). s.size) states ∙ is.channels;
@@ -84,4 +86,4 @@ IsRouter-landed r channels i flit is states link = record {
 -- a router of which as many channels are counted as before is one still
 pub IsRouter-counted : (r : Inside) (tally : TallyContents) (beats : List Beat) → IsRouter r → length tally.counts ≡ length r.tally.counts → length beats ≡ length r.to_put
     → IsRouter (record r { tally = tally; to_put = beats })
-IsRouter-counted r tally beats is counts same = IsRouter-kept r (record r { tally = tally; to_put = beats }) is refl refl refl refl refl refl refl refl (λ i h. h) same counts refl refl
+IsRouter-counted r tally beats is counts same = IsRouter-kept r (record r { tally = tally; to_put = beats }) is refl refl refl refl refl refl refl refl (λ i h. h) refl same counts refl refl

@@ -1,5 +1,5 @@
 -- The channels and the arbiters of a router are whole.
-use Rattle.std.proofs.Common.{◌≡◌, ℕ, ◌*◌, ◌<◌, true, length, ap, sym, ◌∙◌, subst}
+use Rattle.std.proofs.Common.{◌≡◌, ℕ, ◌*◌, ◌<◌, ◌≤◌, arith, true, length, ap, sym, ◌∙◌, subst}
 use Rattle.std.specs.List.{All}
 use Rattle.std.proofs.lemmas.Bool.{ltb-true}
 use Rattle.noc_topo.specs.Shape.{ports}
@@ -64,3 +64,10 @@ arbiters_view r v e h = let P : View → Type 0 = λ x. AreArbiters x in subst P
 -- as many channels and ports as its view has
 pub ports_view : (r : Inside) (v : View) → view_of r ≡ v → IsRouter r → r.ports ≡ ports v.site.grid
 ports_view r v e h = h.ports ∙ ap (λ (x : View). ports x.site.grid) e
+
+-- there is room for them
+pub few-channels : (r : Inside) → IsRouter r → r.ports * r.vcs ≤ 56
+few-channels r h = omega (arith, r.channels.few, h.channels)
+
+pub few-ports : (r : Inside) → IsRouter r → r.ports ≤ 7
+few-ports r h = omega (arith, h.ports, h.grid.few_dimensions)

@@ -1,5 +1,5 @@
 -- The sizes of arbiters, and those who have won, who are below them.
-use Rattle.std.proofs.Common.{◌≡◌, ℕ, ◌<◌, List, length, get_or, replicate, Option, Some, None, refl, ap, ◌∙◌, arith, subst}
+use Rattle.std.proofs.Common.{◌≡◌, ℕ, ◌<◌, List, length, get_or, replicate, Option, Some, None, refl, ap, ◌∙◌, arith}
 use Rattle.std.specs.Prelude.{IfSome}
 use Rattle.std.specs.List.{All}
 use Rattle.std.proofs.lemmas.List.{get_or-replicate, length-replicate}
@@ -30,7 +30,3 @@ all-below xs n below k d l = at (get_or xs k d) refl
     at : (x : Option ℕ) → get_or xs k d ≡ x → IfSome x (λ q. q < n)
     at None e = tt
     at (Some q) e = below k d l q e
-
--- the same, the other way
-pub named-below : (n : ℕ) (xs : List (Option ℕ)) → All (λ x. IfSome x (λ q. q < n)) xs → AllBelow n xs
-named-below n xs all k d l q e = subst (λ x. IfSome x (λ i. i < n)) e (all k d l)

@@ -1,10 +1,10 @@
 -- Which view the fields of a router stand for, and what is true of these fields.
-use Rattle.std.specs.Prelude.{◌≡◌, ℕ, ◌+◌, ◌-◌, ◌*◌, ◌<◌, ◌≤◌, true, List, length, take, Option}
+use Rattle.std.specs.Prelude.{◌≡◌, ℕ, ◌+◌, ◌-◌, ◌*◌, ◌<◌, ◌≤◌, true, List, length, take, Option, None, slice_index_or}
 use Rattle.std.specs.Option.{ForSome}
 use Rattle.std.specs.List.{zip}
 use Rattle.noc_packet.specs.declared.packet.Packet.{Packet}
 use Rattle.noc_packet.specs.declared.limits.TheConstants.{MAX_CHANNELS}
-use Rattle.noc_topo.specs.Shape.{IsGrid, nodes, ports, local_port}
+use Rattle.noc_topo.specs.Shape.{IsGrid, nodes, ports, local_port, neighbour}
 use Rattle.noc_topo.specs.declared.limits.TheConstants.{LINKS}
 use Rattle.noc_router.specs.declared.router.Router.TheInside.{Inside}
 use Rattle.noc_router.specs.declared.source.Source.{Source}
@@ -48,6 +48,8 @@ pub record IsRouter (r : Inside) : Type 0 where
   pub grid : IsGrid r.shape
   pub node : r.node < nodes r.shape
   pub ports : r.ports ≡ ports r.shape
+  pub neighbours : (port : ℕ) → port < local_port r.shape
+      → slice_index_or r.neighbours port None ≡ neighbour r.shape r.node port
   pub some_vc : 0 < r.vcs
   pub few_vcs : r.vcs ≤ MAX_CHANNELS
   pub channels : r.channels.size ≡ r.ports * r.vcs

@@ -1,5 +1,5 @@
 -- Which decisions the fields of a plan stand for, and what is true of these fields.
-use Rattle.std.specs.Prelude.{◌≡◌, ◌≤◌, length, take}
+use Rattle.std.specs.Prelude.{◌≤◌, take}
 use Rattle.noc_packet.specs.declared.limits.TheConstants.{INDICES, MAX_PORTS}
 use Rattle.noc_router.specs.declared.plan.Plan.TheInside.{Inside}
 use Rattle.noc_view.specs.Verdict.{Round}
@@ -25,9 +25,3 @@ plan_contents_in p = record {
 pub record IsPlan (p : Inside) : Type 0 where
   pub few_ports : p.ports ≤ MAX_PORTS
   pub few : p.size ≤ INDICES
-  pub routes : length p.routes ≡ INDICES
-  pub asks : length p.asks ≡ INDICES
-  pub verdicts : length p.verdicts ≡ INDICES
-  pub grants : length p.grants ≡ INDICES
-  pub picks : length p.picks ≡ MAX_PORTS
-  pub wins : length p.wins ≡ MAX_PORTS

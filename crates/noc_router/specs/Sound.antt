@@ -1,8 +1,6 @@
 -- What is true of the channels of one router: what their buffers hold, and which input channel owns
 -- which output channel.
-use Rattle.std.specs.Prelude.{◌≡◌, ℕ, ◌<◌, ◌≤◌, ◌/◌, ◌%◌, ◌⊎◌, Bool, true, ◌&&◌, not, length, List, [], ◌∷◌, find, Option, Some, None, is_some, option_map, slice_index_or, if◌then◌else◌}
-use Rattle.noc_topo.specs.Lists.{below}
-use Rattle.noc_packet.specs.Set.{has_bit}
+use Rattle.std.specs.Prelude.{◌≡◌, ℕ, ◌<◌, ◌≤◌, ◌/◌, ◌%◌, ◌⊎◌, Bool, true, ◌&&◌, not, length, List, [], ◌∷◌, Option, Some, None, is_some, option_map, slice_index_or, if◌then◌else◌}
 use Rattle.noc_packet.specs.declared.packet.Flit.{Flit}
 use Rattle.noc_packet.specs.declared.limits.TheConstants.{INDICES, MAX_BUFFER}
 use Rattle.noc_vc.specs.Input.{Input, idle_input, is_empty, is_waiting}
@@ -50,15 +48,7 @@ is_awaiting inputs i = is_some (slice_index_or inputs i idle_input).awaited
 abbrev pub KeepsAwaiting : List Input → List Input → Type 0
 KeepsAwaiting before after = (i : ℕ) → is_awaiting before i ≡ true → is_awaiting after i ≡ true
 
--- the output channel that an input channel in this state asks for
-abbrev pub asked_in : ℕ → List Output → InputState → Option ℕ
-asked_in size outputs Idle = None
-asked_in size outputs (Waiting set) =
-    find (λ o. has_bit set o && is_free (slice_index_or outputs o ejection_output).holder)
-    (below size)
-asked_in size outputs (Active output) = None
-
--- the output channel that it asks for or owns
+-- the output channel that an input channel in this state asks for or owns
 abbrev pub out_in : InputState → Option ℕ → Option ℕ
 out_in Idle ask = None
 out_in (Waiting set) ask = ask

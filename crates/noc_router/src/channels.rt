@@ -9,7 +9,7 @@ ghost use Rattle.noc_ring.specs.Buffers.{buffer_at};
 ghost use Rattle.noc_vc.specs.Input.{idle_input, is_idle_phase, is_empty, fits};
 ghost use Rattle.noc_vc.specs.Output.{ejection_output, link_output, is_free, is_owned, has_credit, credit_fits, output_after_spend};
 ghost use Rattle.noc_router.specs.Members.{is_within};
-ghost use Rattle.noc_router.specs.Sound.{nth_input, nth_output, CanHold, CanInject, CanRoute, CanSend, KeepsAwaiting, AreSizes, AreSound, asked_in};
+ghost use Rattle.noc_router.specs.Sound.{nth_input, nth_output, CanHold, CanInject, CanRoute, CanSend, KeepsAwaiting, AreSizes, AreSound};
 ghost use Rattle.noc_router.specs.Settled.{finding_by};
 
 use crate::plan::Plan;
@@ -135,21 +135,8 @@ impl Channels {
         self.inputs[index].state()
     }
 
-    // The output channel that a waiting input channel asks for: the least of
-    // the idle ones in its set.
-    pub(crate) fn asked(&self, index: usize) -> Option<usize>
-        requires { index < self.now.size }
-        ensures { result ≡ asked_in self.now.size self.now.outputs.items
-            (nth_input self.now.inputs.items index).phase }
-    {
-        match self.inputs[index].state() {
-            InputState::Waiting(set) => self.least_idle(set),
-            _ => None,
-        }
-    }
-
     // The idle output channel of a set with the least index.
-    fn least_idle(&self, set: ChannelSet) -> Option<usize>
+    pub(crate) fn least_idle(&self, set: ChannelSet) -> Option<usize>
         ensures { result
             ≡ find (λ o. has_bit set o && is_free (nth_output self.now.outputs.items o).holder)
             (below self.now.size) }
@@ -171,24 +158,27 @@ impl Channels {
         set.contains(output) && self.outputs[output].state() == OutputState::Idle
     }
 
-    // What is found of an input channel by a plan of these channels.
-    pub(crate) fn finding(&self, plan: &Plan, index: usize, vcs: usize) -> Finding
+    // Writes what is found of an input channel by a plan of these channels.
+    pub(crate) fn find(&self, plan: &Plan, index: usize, vcs: usize, finding: &mut Finding)
         requires some { 0 < vcs }
         requires index { index < self.now.size }
         requires asks { length plan.now.asks ≡ self.now.size }
         requires verdicts { length plan.now.verdicts ≡ self.now.size }
-        ensures { result ≡ finding_by plan.now vcs self.now.inputs.items index }
+        ensures { finding.new ≡ finding_by plan.now vcs self.now.inputs.items index }
     {
         let input = &self.inputs[index];
+        *finding = Finding {
+            verdict: plan.verdict(index),
+            packet: input.packet(),
+            out: None,
+        };
         let out = match input.state() {
             InputState::Idle => None,
             InputState::Waiting(_) => plan.ask(index),
             InputState::Active(next) => Some(next),
         };
-        Finding {
-            verdict: plan.verdict(index),
-            packet: input.packet(),
-            out: out.map(|next| (next / vcs, next % vcs)),
+        if let Some(next) = out {
+            finding.out = Some((next / vcs, next % vcs));
         }
     }
 

@@ -1,13 +1,14 @@
 //! What a router decides in one cycle, on one frozen state.
 
-ghost use Rattle.std.specs.Prelude.{◌≡◌, ◌<◌, not, length};
+ghost use Rattle.std.specs.Prelude.{◌≡◌, ℕ, ◌<◌, List, Option, not, length, take, true};
 ghost use Rattle.noc_topo.specs.Shape.{ports as ports_of};
 ghost use Rattle.noc_topo.specs.Lists.{tabulate};
 ghost use Rattle.noc_vc.specs.Input.{is_empty};
+ghost use Rattle.noc_vc.specs.Output.{has_credit};
 ghost use Rattle.noc_router.specs.Decided.{verdict_at};
-ghost use Rattle.noc_view.specs.View.{IsRelationOf, size_of, view_buffer, plan_contents, route_for, route_of, view_claim, view_round, view_stands, first_flit};
+ghost use Rattle.noc_view.specs.View.{IsRelationOf, size_of, view_buffer, plan_contents, route_for, route_of, view_claim, view_output, view_round, view_stands, first_flit};
 ghost use Rattle.noc_alloc.specs.Requests.{AllBelow};
-ghost use Rattle.noc_view.specs.Verdict.{Round, ask_of, asks_of, ready_of, ready_port};
+ghost use Rattle.noc_view.specs.Verdict.{Holds, Round, ask_of, asks_of, ready_of, ready_port, verdict_of};
 
 use crate::plan::Plan;
 use crate::router::Router;
@@ -27,62 +28,81 @@ impl Router {
     {
         let ports = self.ports;
         let size = ports * self.vcs;
-        let mut routes = [ChannelSet::empty(); INDICES];
-        let mut asks = [None; INDICES];
-        let mut ready = [None; INDICES];
-        let mut grants = [None; INDICES];
-        let mut picks = [None; MAX_PORTS];
-        let mut wins = [None; MAX_PORTS];
-        let mut verdicts = [Verdict::Empty; INDICES];
-        self.route_heads(relation, &mut routes[..size]);
-        self.ask_for_channels(&mut asks[..size]);
-        self.ask_for_ports(&mut ready[..size]);
-        self.grant_channels(&asks[..size], &mut grants[..size]);
-        self.grant_ports(&ready[..size], &mut picks[..ports], &mut wins[..ports]);
+        plan.ports = ports;
+        plan.size = size;
+        self.find_requests(relation, &mut plan.routes, &mut plan.asks, &mut plan.ready);
+        self.grant_channels(&plan.asks[..size], &mut plan.grants);
+        self.grant_ports(&plan.ready[..size], &mut plan.picks, &mut plan.wins);
         self.find_verdicts(
-            &asks[..size],
-            &grants[..size],
-            &picks[..ports],
-            &wins[..ports],
-            &mut verdicts[..size],
+            &plan.asks[..size],
+            &plan.grants[..size],
+            &plan.picks[..ports],
+            &plan.wins[..ports],
+            &mut plan.verdicts,
         );
-        *plan = Plan {
-            ports,
-            size,
-            routes,
-            asks,
-            verdicts,
-            grants,
-            picks,
-            wins,
-        };
     }
 
-    // The set for the head of each input channel.
-    fn route_heads(&self, relation: &Relation, routes: &mut [ChannelSet])
+    // What each input channel asks for: the set for its head, an output channel or an output port.
+    fn find_requests(
+        &self,
+        relation: &Relation,
+        routes: &mut [ChannelSet; INDICES],
+        asks: &mut [Option<usize>; INDICES],
+        ready: &mut [Option<usize>; INDICES],
+    )
         requires relation { IsRelationOf relation.now self.now }
-        requires routes { length routes.old ≡ size_of self.now.site }
-        ensures { routes.new ≡ tabulate (size_of self.now.site) (route_of relation.now self.now) }
+        ensures routes { take (size_of self.now.site) routes.new
+            ≡ tabulate (size_of self.now.site) (route_of relation.now self.now) }
+        ensures asks { take (size_of self.now.site) asks.new ≡ asks_of (view_stands self.now) }
+        ensures ready { take (size_of self.now.site) ready.new
+            ≡ ready_of self.now.site.vcs (view_stands self.now) }
     {
-        for index in 0..routes.len() {
-            routes[index] = self.route_of(relation, index);
+        for index in 0..self.ports * self.vcs {
+            self.find_request(
+                relation,
+                index,
+                &mut routes[index],
+                &mut asks[index],
+                &mut ready[index],
+            );
         }
     }
 
-    // The set for the head of an input channel: none where the channel is not idle or has no flit.
-    fn route_of(&self, relation: &Relation, index: usize) -> ChannelSet
+    // What one input channel asks for: a head that is not routed a set, a packet that waits an
+    // output channel, and a flit whose packet owns an output channel the port of that one.
+    fn find_request(
+        &self,
+        relation: &Relation,
+        index: usize,
+        route: &mut ChannelSet,
+        ask: &mut Option<usize>,
+        ready: &mut Option<usize>,
+    )
         requires relation { IsRelationOf relation.now self.now }
         requires index { index < size_of self.now.site }
-        ensures { result ≡ route_of relation.now self.now index }
+        ensures route { route.new ≡ route_of relation.now self.now index }
+        ensures ask { ask.new ≡ ask_of (view_claim self.now index) }
+        ensures ready { ready.new
+            ≡ ready_port self.now.site.vcs (view_claim self.now index)
+            (not (is_empty (view_buffer self.now index))) }
     {
+        *route = ChannelSet::empty();
+        *ask = None;
+        *ready = None;
         match self.channels.state(index) {
-            InputState::Idle => self.route_for(relation, index),
-            _ => ChannelSet::empty(),
+            InputState::Idle => {
+                if self.channels.has_flit(index) {
+                    *route = self.route_for(relation, index);
+                }
+            }
+            InputState::Waiting(set) => *ask = self.channels.least_idle(set),
+            InputState::Active(next) => *ready = self.ready_port(index, next),
         }
     }
 
     // The set for the first flit in the buffer of an input channel: none where its class or
-    // destination does not exist.
+    // destination does not exist. (The loop over all channels is not to grow by it.)
+    #[inline(never)]
     fn route_for(&self, relation: &Relation, index: usize) -> ChannelSet
         requires relation { IsRelationOf relation.now self.now }
         requires index { index < size_of self.now.site }
@@ -101,54 +121,29 @@ impl Router {
         }
     }
 
-    // The output channel that each input channel asks for.
-    fn ask_for_channels(&self, asks: &mut [Option<usize>])
-        requires { length asks.old ≡ size_of self.now.site }
-        ensures { asks.new ≡ asks_of (view_stands self.now) }
-    {
-        for index in 0..asks.len() {
-            asks[index] = self.channels.asked(index);
-        }
-    }
-
-    // The output port to which each input channel can send.
-    fn ask_for_ports(&self, ready: &mut [Option<usize>])
-        requires { length ready.old ≡ size_of self.now.site }
-        ensures { ready.new ≡ ready_of self.now.site.vcs (view_stands self.now) }
-    {
-        for index in 0..ready.len() {
-            ready[index] = self.ready_port(index);
-        }
-    }
-
     // The output port to which an input channel can send: its flit is there, and the output channel
     // that its packet owns has a credit.
-    fn ready_port(&self, index: usize) -> Option<usize>
-        requires { index < size_of self.now.site }
+    fn ready_port(&self, index: usize, next: usize) -> Option<usize>
+        requires index { index < size_of self.now.site }
+        requires next { next < size_of self.now.site }
         ensures { result
-            ≡ ready_port self.now.site.vcs (view_claim self.now index)
+            ≡ ready_port self.now.site.vcs (Holds next (has_credit (view_output self.now next)))
             (not (is_empty (view_buffer self.now index))) }
     {
-        match self.channels.state(index) {
-            InputState::Active(next) => {
-                let can_send = self.channels.has_flit(index) & self.channels.has_credit(next);
-                if can_send {
-                    Some(next / self.vcs)
-                } else {
-                    None
-                }
-            }
-            _ => None,
+        if self.channels.has_flit(index) & self.channels.has_credit(next) {
+            Some(next / self.vcs)
+        } else {
+            None
         }
     }
 
     // Each output channel goes to one of the input channels that ask for it.
-    fn grant_channels(&self, asks: &[Option<usize>], grants: &mut [Option<usize>])
-        requires asks { asks.now ≡ asks_of (view_stands self.now) }
-        requires grants { length grants.old ≡ size_of self.now.site }
-        ensures { grants.new ≡ (view_round self.now).grants }
+    fn grant_channels(&self, asks: &[Option<usize>], grants: &mut [Option<usize>; INDICES])
+        requires { asks.now ≡ asks_of (view_stands self.now) }
+        ensures { take (size_of self.now.site) grants.new ≡ (view_round self.now).grants }
     {
-        allocate_channels(asks, &self.arbiters.channels, grants);
+        let size = self.ports * self.vcs;
+        allocate_channels(asks, &self.arbiters.channels, &mut grants[..size]);
     }
 
     // Each input port picks one of its channels that can send, and each output port goes to one of
@@ -156,15 +151,13 @@ impl Router {
     fn grant_ports(
         &self,
         ready: &[Option<usize>],
-        picks: &mut [Option<usize>],
-        wins: &mut [Option<usize>],
+        picks: &mut [Option<usize>; MAX_PORTS],
+        wins: &mut [Option<usize>; MAX_PORTS],
     )
-        requires ready { ready.now ≡ ready_of self.now.site.vcs (view_stands self.now) }
-        requires picks { length picks.old ≡ ports_of self.now.site.grid }
-        requires wins { length wins.old ≡ ports_of self.now.site.grid }
-        ensures picks { picks.new ≡ (view_round self.now).picks }
-        ensures wins { wins.new ≡ (view_round self.now).wins }
-        ensures vcs { AllBelow self.now.site.vcs picks.new }
+        requires { ready.now ≡ ready_of self.now.site.vcs (view_stands self.now) }
+        ensures picks { take (ports_of self.now.site.grid) picks.new ≡ (view_round self.now).picks }
+        ensures wins { take (ports_of self.now.site.grid) wins.new ≡ (view_round self.now).wins }
+        ensures vcs { AllBelow self.now.site.vcs (take (ports_of self.now.site.grid) picks.new) }
     {
         let arbiters = &self.arbiters;
         allocate_switch(
@@ -172,8 +165,8 @@ impl Router {
             self.vcs,
             &arbiters.inputs,
             &arbiters.outputs,
-            picks,
-            wins,
+            &mut picks[..self.ports],
+            &mut wins[..self.ports],
         );
     }
 
@@ -184,18 +177,18 @@ impl Router {
         grants: &[Option<usize>],
         picks: &[Option<usize>],
         wins: &[Option<usize>],
-        verdicts: &mut [Verdict],
+        verdicts: &mut [Verdict; INDICES],
     )
         requires asks { asks.now ≡ asks_of (view_stands self.now) }
         requires grants { length grants.now ≡ size_of self.now.site }
         requires picks { length picks.now ≡ ports_of self.now.site.grid }
         requires wins { length wins.now ≡ ports_of self.now.site.grid }
-        requires verdicts { length verdicts.old ≡ size_of self.now.site }
         ensures { let round : Round =
             record { grants = grants.now; picks = picks.now; wins = wins.now } in
-            verdicts.new ≡ tabulate (size_of self.now.site) (verdict_at round self.now) }
+            take (size_of self.now.site) verdicts.new
+            ≡ tabulate (size_of self.now.site) (verdict_at round self.now) }
     {
-        for index in 0..verdicts.len() {
+        for index in 0..self.ports * self.vcs {
             verdicts[index] = self.verdict(index, asks[index], grants, picks, wins);
         }
     }
@@ -219,11 +212,9 @@ impl Router {
             record { grants = grants.now; picks = picks.now; wins = wins.now } in
             result ≡ verdict_at round self.now index }
     {
-        let has_flit = self.channels.has_flit(index);
-        let (port, vc) = self.split(index);
         match self.channels.state(index) {
             InputState::Idle => {
-                if has_flit {
+                if self.channels.has_flit(index) {
                     Verdict::Routed
                 } else {
                     Verdict::Empty
@@ -240,20 +231,42 @@ impl Router {
                 }
             },
             InputState::Active(next) => {
-                if !has_flit {
+                if !self.channels.has_flit(index) {
                     Verdict::NoFlit
                 } else if !self.channels.has_credit(next) {
                     Verdict::NoCredit
-                } else if picks[port] == Some(vc) {
-                    if wins[next / self.vcs] == Some(port) {
-                        Verdict::Moved
-                    } else {
-                        Verdict::LostSwitch
-                    }
                 } else {
-                    Verdict::LostInput
+                    self.switch_verdict(index, next, picks, wins)
                 }
             }
+        }
+    }
+
+    // The verdict on an input channel whose flit can leave by this output channel. (The loop over
+    // all channels is not to grow by it.)
+    #[inline(never)]
+    fn switch_verdict(
+        &self,
+        index: usize,
+        next: usize,
+        picks: &[Option<usize>],
+        wins: &[Option<usize>],
+    ) -> Verdict
+        requires index { index < size_of self.now.site }
+        requires next { next < size_of self.now.site }
+        requires picks { length picks.now ≡ ports_of self.now.site.grid }
+        requires wins { length wins.now ≡ ports_of self.now.site.grid }
+        ensures { (grants : List (Option ℕ)) → let round : Round =
+            record { grants = grants; picks = picks.now; wins = wins.now } in
+            result ≡ verdict_of self.now.site.vcs round index (Holds next true) true }
+    {
+        let (port, vc) = self.split(index);
+        if picks[port] != Some(vc) {
+            Verdict::LostInput
+        } else if wins[next / self.vcs] != Some(port) {
+            Verdict::LostSwitch
+        } else {
+            Verdict::Moved
         }
     }
 }

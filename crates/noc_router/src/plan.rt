@@ -28,6 +28,8 @@ pub struct Plan {
     pub(crate) routes: [ChannelSet; INDICES],
     pub(crate) asks: [Option<usize>; INDICES],
     pub(crate) verdicts: [Verdict; INDICES],
+    // The output port to which each input channel can send.
+    pub(crate) ready: [Option<usize>; INDICES],
     // The input channel that each output channel goes to.
     pub(crate) grants: [Option<usize>; INDICES],
     // The virtual channel that each input port picks, and the input port that each output port
@@ -70,6 +72,7 @@ impl Plan {
             routes: [ChannelSet::empty(); INDICES],
             asks: [None; INDICES],
             verdicts: [Verdict::Empty; INDICES],
+            ready: [None; INDICES],
             grants: [None; INDICES],
             picks: [None; MAX_PORTS],
             wins: [None; MAX_PORTS],
@@ -109,7 +112,7 @@ impl Plan {
         requires { index < length self.now.verdicts }
         ensures { result ≡ slice_index_or self.now.verdicts index Empty }
     {
-        let verdicts = &self.verdicts[..self.size];
+        let verdicts = &self.verdicts;
         verdicts[index]
     }
 
@@ -118,7 +121,7 @@ impl Plan {
         requires { index < length self.now.asks }
         ensures { result ≡ slice_index_or self.now.asks index None }
     {
-        let asks = &self.asks[..self.size];
+        let asks = &self.asks;
         asks[index]
     }
 
@@ -127,7 +130,7 @@ impl Plan {
         requires { index < length self.now.routes }
         ensures { result ≡ slice_index self.now.routes index }
     {
-        let routes = &self.routes[..self.size];
+        let routes = &self.routes;
         routes[index]
     }
 }

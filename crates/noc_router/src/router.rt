@@ -1,7 +1,7 @@
 //! The router.
 
 ghost use Rattle.std.specs.List.Sorted.{IsStrictlyIncreasing};
-ghost use Rattle.std.specs.Prelude.{◌≡◌, ◌+◌, ◌*◌, ◌/◌, ◌%◌, ◌<◌, ◌≤◌, All, IfOk, length, slice_index_or, []};
+ghost use Rattle.std.specs.Prelude.{◌≡◌, ℕ, ◌+◌, ◌*◌, ◌/◌, ◌%◌, ◌<◌, ◌≤◌, All, IfOk, length, slice_index_or, [], None};
 ghost use Rattle.noc_topo.specs.Shape.{nodes as nodes_of, ports as ports_of, local_port, neighbour as neighbour_of};
 ghost use Rattle.noc_view.specs.Arrivals.{noted_arrival};
 ghost use Rattle.noc_view.specs.Finish.{view_after_finish};
@@ -47,6 +47,9 @@ pub struct Router {
     pub(crate) arbiters: Arbiters,
     pub(crate) arrivals: Arrivals,
     shape: Shape,
+    // The neighbour at each link port, and the port by which a flit enters there, as the shape has
+    // them.
+    neighbours: [Option<(usize, usize)>; LINKS],
 }
 
 impl Model for Router {
@@ -105,6 +108,7 @@ impl Router {
             arbiters,
             arrivals,
             shape,
+            neighbours: neighbours_of(&shape, node),
         })
     }
 
@@ -148,7 +152,8 @@ impl Router {
         requires { port < local_port self.now.site.grid }
         ensures { result ≡ neighbour_of self.now.site.grid self.now.site.node port }
     {
-        self.shape.neighbour(self.node, port)
+        let neighbours = &self.neighbours;
+        neighbours[port]
     }
 
     // The port and the virtual channel of an index.
@@ -198,4 +203,17 @@ impl Router {
     {
         self.misfits
     }
+}
+
+// The neighbour at each link port of a node, and the port by which a flit enters there.
+fn neighbours_of(shape: &Shape, node: usize) -> [Option<(usize, usize)>; LINKS]
+    requires { node < nodes_of shape.now }
+    ensures { (port : ℕ) → port < local_port shape.now
+        → slice_index_or result port None ≡ neighbour_of shape.now node port }
+{
+    let mut neighbours = [None; LINKS];
+    for port in 0..shape.ports() - 1 {
+        neighbours[port] = shape.neighbour(node, port);
+    }
+    neighbours
 }

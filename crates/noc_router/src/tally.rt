@@ -97,7 +97,7 @@ fn find_all(findings: &mut [Finding], channels: &Channels, vcs: usize, plan: &Pl
         (finding_by plan.now vcs channels.now.inputs.items) }
 {
     for index in 0..findings.len() {
-        findings[index] = channels.finding(plan, index, vcs);
+        channels.find(plan, index, vcs, &mut findings[index]);
     }
 }
 

@@ -128,6 +128,7 @@ module _ (pattern : Pattern) (layout : Layout) (starts : List Start) (n : ℕ) (
     idle = subst (MembersAreBelow (channels_count pattern)) idle-same blank.idle;
     apart = λ i e. absurd (false≢true (no-member h.inputs.active i active-none e));
     busy = λ i e. absurd (false≢true (no-member h.inputs.active i active-none e));
+    sends = λ i e. absurd (false≢true (nothing-ready layout starts n taken.up b soon (channels_count pattern) blank taken.ups i (ap (λ w. has_bit w i) (sym taken.shows.ready) ∙ e)));
     node_is = λ some. absurd (some heads-none);
     heads = λ k e. absurd (false≢true (no-member standing.heads k heads-none e));
   }

@@ -149,6 +149,10 @@ module _ (count : ℕ) (net : Setup) (layout : Layout) (pattern : Pattern) (star
     busy = λ i e.
         sym (ap (λ (c : Column). has_bit c.idle (owned_by vs h i)) taken.shows.column)
         ∙ (owner-busy count s.column s.marks x column (frozen-tidy net setup n r l) wd vs h.out_port h.out_vc (wide count net layout pattern fits r x x-site) (many count net layout pattern fits r x x-site) now-owned i (active-there i e)).0;
+    sends = λ i e.
+        let ready : has_bit (bit_and (bit_and s.column.active s.filled) s.column.supplied) i ≡ true = ap (λ w. has_bit w i) (sym taken.shows.ready) ∙ e in
+        let filled = (and_parts (has_bit (bit_and s.column.active s.filled) i) (has_bit s.column.supplied i) (sym (both_members (bit_and s.column.active s.filled) s.column.supplied i) ∙ ready)).0 in
+        now-owned.sends.vc i (and_parts (has_bit s.column.active i) (has_bit s.filled i) (sym (both_members s.column.active s.filled i) ∙ filled)).0;
     node_is = λ some. l;
     heads = λ k e.
         let head : has_bit (less s.filled (bit_or s.column.waiting s.column.active)) k ≡ true = ap (λ w. has_bit w k) (sym taken.shows.heads) ∙ e in

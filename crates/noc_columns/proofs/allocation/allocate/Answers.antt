@@ -1,10 +1,11 @@
-use Rattle.std.proofs.Common.{◌≢◌, ◌∙◌, ◌+◌, ◌*◌, ap, sym, subst, arith, inl, inr}
-use Rattle.std.specs.Prelude.{not, nat_eq}
-use Rattle.std.proofs.lemmas.Bool.{and_parts, cases_lt, eq-eqb, true≢false}
+use Rattle.std.proofs.Common.{◌≡◌, ◌≢◌, ℕ, ◌∙◌, ◌+◌, ◌*◌, ◌<◌, true, ap, sym, subst, arith, inl, inr, bit_and}
+use Rattle.std.specs.Prelude.{not, nat_eq, if◌then◌else◌}
+use Rattle.std.proofs.lemmas.Bool.{and_parts, cases_eq, cases_lt, eq-eqb, false≢true, true≢false}
 use Rattle.noc_packet.specs.Set.{has_bit}
 use Rattle.noc_alloc.specs.Members.{MembersAreBelow}
 use Rattle.noc_columns.specs.Allotted.{Allotment, HasAllotted, allotment_at}
 use Rattle.noc_columns.specs.Picks.{channels_of}
+use Rattle.noc_columns.specs.Wants.{asks_of}
 use Rattle.noc_columns.proofs.LoopLemmas.{left-members, each-all, each-none, each-stepped}
 use Rattle.noc_columns.proofs.allocation.allocate.Goals as goal
 
@@ -14,27 +15,31 @@ loop-rest-init c = record {
   are = each-none _ _ _ _;
 }
 
-pub allocate_router-requires-clause-waiting : goal.allocate_router-requires-clause-waiting
-allocate_router-requires-clause-waiting c =
+-- where a router is asked a channel waits
+asks-waits : (waiting wanted idle : ℕ) → not (nat_eq (asks_of waiting wanted idle) 0) ≡ true → 0 < waiting
+asks-waits waiting wanted idle e = elim (cases_eq waiting 0) [
+  | inl none ↦ absurd (false≢true (sym (ap (λ b. not (nat_eq (if b then 0 else bit_and wanted idle) 0)) (eq-eqb waiting 0 none)) ∙ e))
+  | inr some ↦ omega (arith, some)
+]
+
+pub allocate_router-requires : goal.allocate_router-requires
+allocate_router-requires c =
     let ports = c.args.table.now.ports in
+    let size = (ports.links.width + 1) * ports.links.vcs in
     let t = c.least.result in
-    let same = c.loop-rest.invariant.are.left t c.least.ensures.least.0 in
-    subst (MembersAreBelow ((ports.links.width + 1) * ports.links.vcs)) (sym (ap (λ (x : Allotment). x.waiting) same)) (c.requires.waiting t c.least.ensures.within)
-
-pub allocate_router-requires-clause-idle : goal.allocate_router-requires-clause-idle
-allocate_router-requires-clause-idle c =
-    let ports = c.args.table.now.ports in
-    let t = c.least.result in
-    let same = c.loop-rest.invariant.are.left t c.least.ensures.least.0 in
-    subst (MembersAreBelow ((ports.links.width + 1) * ports.links.vcs)) (sym (ap (λ (x : Allotment). x.idle) same)) (c.requires.idle t c.least.ensures.within)
-
-pub allocate_router-requires-clause-free : goal.allocate_router-requires-clause-free
-allocate_router-requires-clause-free c =
-    let t = c.least.result in
-    ap (λ (x : Allotment). x.granted) (c.loop-rest.invariant.are.left t c.least.ensures.least.0) ∙ c.requires.free t c.least.ensures.within
-
-pub allocate_router-requires-clause-room : goal.allocate_router-requires-clause-room
-allocate_router-requires-clause-room c = let low = c.loop-rest.invariant.low c.least.result c.least.ensures.least.0 in let few = c.least.ensures.within in omega (arith, low, few)
+    let within = c.least.ensures.within in
+    let inv = c.loop-rest.invariant in
+    let member = c.least.ensures.least.0 in
+    let same = inv.are.left t member in
+    let waits = ap (λ (x : Allotment). x.waiting) same in
+    record {
+      router_within = within;
+      some = subst (λ x. 0 < x) (sym waits) (asks-waits _ _ _ (sym (c.args.marks.now.asks t within) ∙ inv.are.part t member));
+      waiting = subst (MembersAreBelow size) (sym waits) (c.requires.waiting t within);
+      idle = subst (MembersAreBelow size) (sym (ap (λ (x : Allotment). x.idle) same)) (c.requires.idle t within);
+      free = ap (λ (x : Allotment). x.granted) same ∙ c.requires.free t within;
+      room = let low = inv.low t member in omega (arith, low, within);
+    }
 
 pub loop-rest-preserved : goal.loop-rest-preserved
 loop-rest-preserved c =

@@ -10,7 +10,7 @@ use Rattle.noc_sets.proofs.MemberLemmas.{lowest-one, or-cases, or-none}
 use Rattle.noc_columns.specs.Grants.{first_of}
 use Rattle.noc_columns.specs.Picks.{channels_of}
 use Rattle.noc_columns.specs.Words.{set_of}
-use Rattle.noc_columns.proofs.GrantLemmas.{granted-next, granted-none, granted-same}
+use Rattle.noc_columns.proofs.GrantLemmas.{first-is, granted-next, granted-none, granted-same}
 use Rattle.noc_columns.proofs.LoopLemmas.{all-done, left-members, left-part, none-left, not-done, not-left}
 use Rattle.noc_columns.proofs.PortLemmas.{lowest-least}
 use Rattle.noc_columns.proofs.RouterLemmas.{first-among}
@@ -29,19 +29,29 @@ loop-rest-init c = record {
   unread = λ o e. refl;
 }
 
-pub grant-bit-requires : goal.grant-bit-requires
-grant-bit-requires c =
-    let ports = c.args.table.now.ports in
+pub first_in_turn-input-requires : goal.first_in_turn-input-requires
+first_in_turn-input-requires c =
     let inv = c.loop-rest.invariant in
     let t = c.least-out.result in
     let asked = c.requires.asked t (inv.part t c.least-out.ensures.least.0) in
     let was : slice_index c.loop-rest.requests t ≡ slice_index c.args.requests.now t = inv.unread t (not-done c.args.outs c.loop-rest.rest t c.least-out.ensures.least.0) in
+    subst (λ x. 0 < x) (sym was) asked.1
+
+pub grant-requires : goal.grant-requires
+grant-requires c =
+    let ports = c.args.table.now.ports in
+    let size = (ports.links.width + 1) * ports.links.vcs in
+    let inv = c.loop-rest.invariant in
+    let t = c.least-out.result in
+    let asked = c.requires.asked t (inv.part t c.least-out.ensures.least.0) in
+    let asks = slice_index c.loop-rest.requests t in
+    let turn = slice_index c.loop-rest.turn t in
+    let was : asks ≡ slice_index c.args.requests.now t = inv.unread t (not-done c.args.outs c.loop-rest.rest t c.least-out.ensures.least.0) in
     record {
-      router = c.requires.router;
-      out = asked.0;
-      some = subst (λ x. 0 < x) (sym was) asked.1;
-      below = subst (MembersAreBelow ((ports.links.width + 1) * ports.links.vcs)) (sym was) asked.2;
-      free = λ k e. ungranted k (ap (λ w. has_bit w k) (sym was) ∙ e);
+      router_within = c.requires.router_within;
+      out_within = asked.0;
+      one = first-is size asks turn c.first_in_turn-input.result (subst (MembersAreBelow size) (sym was) asked.2) (subst (λ x. 0 < x) (sym was) asked.1) c.first_in_turn-input.ensures;
+      free = λ k e. ungranted k (ap (λ w. has_bit w k) (sym was) ∙ first-among asks turn k (ap (λ w. has_bit w k) (sym c.first_in_turn-input.ensures) ∙ e));
       room = let few = inv.few t c.least-out.ensures.least.0 in let within = c.least-out.ensures.within in let room = c.requires.room in omega (arith, few, within, room);
     }
   where
@@ -78,11 +88,11 @@ loop-rest-preserved c =
     let least = c.least-out.ensures.least in
     let requests = λ (o : ℕ). slice_index c.args.requests.now o in
     let turn = λ (o : ℕ). slice_index c.args.turn.now o in
-    let bit = c.grant-bit.result in
+    let bit = c.first_in_turn-input.result in
     let prev = λ (o : ℕ). has_bit outs o && not (has_bit rest o) in
     let fresh = inv.left t (not-done outs rest t least.0) in
     let was = inv.unread t (not-done outs rest t least.0) in
-    let is : bit ≡ first_of requests turn t = c.grant-bit.ensures.first ∙ ap₂ first_bit was fresh in
+    let is : bit ≡ first_of requests turn t = c.first_in_turn-input.ensures ∙ ap₂ first_bit was fresh in
     let next = λ (o : ℕ). has_bit outs o && not (has_bit c.but_lowest-rest.result o) in
     let more : (k : ℕ) → next k ≡ (prev k || nat_eq k t) = λ k. ap (λ w. has_bit outs k && not (has_bit w k)) c.but_lowest-rest.ensures.members ∙ not-left outs rest t k least inv.part in
     let other : (o : ℕ) → prev o ≡ true → o ≢ t = λ o p e. true≢false (sym p ∙ ap prev e ∙ not-done outs rest t least.0) in
@@ -90,9 +100,9 @@ loop-rest-preserved c =
     record {
       size = length-set c.loop-rest.requests t 0 ∙ inv.size;
       part = λ k e. left-part outs rest t least inv.part k (ap (λ w. has_bit w k) (sym c.but_lowest-rest.ensures.members) ∙ e);
-      granted = granted-next (channels_of ports) ports.links.vcs c.args.router prev next requests turn c.loop-rest.granted t bit c.args.grants.now c.loop-rest.grants c.grant-bit.new.grants more is
+      granted = granted-next (channels_of ports) ports.links.vcs c.args.router prev next requests turn c.loop-rest.granted t bit c.args.grants.now c.loop-rest.grants c.grant.new.grants more is
           (λ o k p b. free o k p b (has_bit bit k) refl)
-          c.grant-bit.ensures.grants inv.granted;
+          c.grant.ensures.grants inv.granted;
       few = λ o e.
           let both = and_parts (has_bit rest o) (not (nat_eq o t)) (sym (left-members rest t o least) ∙ ap (λ w. has_bit w o) (sym c.but_lowest-rest.ensures.members) ∙ e) in
           elim (cases_lt o t) [
@@ -100,20 +110,20 @@ loop-rest-preserved c =
             | inr after ↦
                 let away : o ≢ t = λ same. true≢false (sym both.1 ∙ ap not (eq-eqb o t same)) in
                 let had = inv.few t least.0 in
-                let more = c.grant-bit.ensures.count in
+                let more = c.grant.ensures.count in
                 omega (arith, after, away, had, more)
           ];
-      most = let had = inv.few t least.0 in let more = c.grant-bit.ensures.count in omega (arith, had, more, few);
+      most = let had = inv.few t least.0 in let more = c.grant.ensures.count in omega (arith, had, more, few);
       left = λ o e.
           let both = or-none (prev o) (nat_eq o t) (sym (more o) ∙ e) in
           let far : o ≢ t = λ same. true≢false (sym (eq-eqb o t same) ∙ both.1) in
-          c.grant-bit.ensures.others o far ∙ inv.left o both.0;
+          c.grant.ensures.others o far ∙ inv.left o both.0;
       turned = λ o k i a b l. elim (or-cases (prev o) (nat_eq o t) (sym (more o) ∙ a)) [
-        | inl p ↦ ap (λ w. has_bit w i) (c.grant-bit.ensures.others o (other o p)) ∙ inv.turned o k i p b l
+        | inl p ↦ ap (λ w. has_bit w i) (c.grant.ensures.others o (other o p)) ∙ inv.turned o k i p b l
         | inr e ↦
             let same = eqb-true o t e in
             let power : bit ≡ 2 ^ k = is ∙ ap (first_of requests turn) (sym same) ∙ lowest-one (in_turn (requests o) (turn o)) k (lowest-least (in_turn (requests o) (turn o)) k b) in
-            ap (λ x. has_bit (slice_index c.grant-bit.new.turn x) i) same ∙ c.grant-bit.ensures.turn k i power l
+            ap (λ x. has_bit (slice_index c.grant.new.turn x) i) same ∙ c.grant.ensures.turn k i power l
       ];
       answered = λ o a. elim (or-cases (prev o) (nat_eq o t) (sym (more o) ∙ a)) [
         | inl p ↦ get_or-set_other c.loop-rest.requests t o 0 0 (other o p) ∙ inv.answered o p
@@ -126,7 +136,7 @@ loop-rest-preserved c =
     }
   where
     free : (o k : ℕ) → (has_bit c.args.outs o && not (has_bit c.loop-rest.rest o)) ≡ true → has_bit (first_of (λ x. slice_index c.args.requests.now x) (λ x. slice_index c.args.turn.now x) o) k ≡ true
-        → (b : Bool) → has_bit c.grant-bit.result k ≡ b → has_bit c.grant-bit.result k ≡ false
+        → (b : Bool) → has_bit c.first_in_turn-input.result k ≡ b → has_bit c.first_in_turn-input.result k ≡ false
     free o k p b false e = e
     free o k p b true e =
         let t = c.least-out.result in
@@ -134,7 +144,7 @@ loop-rest-preserved c =
         let parts = and_parts (has_bit c.args.outs o) (not (has_bit c.loop-rest.rest o)) p in
         let a = first-among (slice_index c.args.requests.now o) (slice_index c.args.turn.now o) k b in
         let was = c.loop-rest.invariant.unread t (not-done c.args.outs c.loop-rest.rest t least.0) in
-        let d = first-among (slice_index c.loop-rest.requests t) (slice_index c.loop-rest.turn t) k (ap (λ w. has_bit w k) (sym c.grant-bit.ensures.first) ∙ e) in
+        let d = first-among (slice_index c.loop-rest.requests t) (slice_index c.loop-rest.turn t) k (ap (λ w. has_bit w k) (sym c.first_in_turn-input.ensures) ∙ e) in
         let same = c.requires.apart o t k parts.0 (c.loop-rest.invariant.part t least.0) a (ap (λ w. has_bit w k) (sym was) ∙ d) in
         absurd (true≢false (sym parts.1 ∙ ap (λ x. not (has_bit c.loop-rest.rest x)) same ∙ ap not least.0))
 
@@ -144,8 +154,10 @@ returns c =
     let inv = c.loop-rest.invariant in
     record {
       granted = granted-same _ _ _ _ _ _ _ _ _ _ (λ o. sym (done o)) inv.granted;
-      turns = λ o k i a b l. inv.turned o k i (done o ∙ a) b l;
-      others = λ o e. inv.left o (done o ∙ e);
+      turns = record {
+        past = λ o k i a b l. inv.turned o k i (done o ∙ a) b l;
+        others = λ o e. inv.left o (done o ∙ e);
+      };
       answered = λ o a. inv.answered o (done o ∙ a);
       unasked = λ o e. inv.unread o (done o ∙ e);
       few = inv.most;

@@ -1,133 +1,77 @@
-use Rattle.std.proofs.Common.{◌≡◌, ◌≢◌, ◌⊎◌, ℕ, ◌+◌, ◌*◌, ◌<◌, ◌≤◌, ◌∙◌, ap, ap₂, sym, subst, arith, set, bit_and, bit_or, inl, inr}
-use Rattle.std.proofs.lemmas.List.{length-set}
+use Rattle.std.proofs.Common.{◌≡◌, ℕ, ◌+◌, ◌-◌, ◌*◌, ◌<◌, ◌∙◌, ap, ap₂, sym, subst, arith, bit_and, bit_or, inl, inr}
+use Rattle.std.proofs.lemmas.Bool.{cases_lt}
 use Rattle.noc_sets.specs.Sets.{less}
 use Rattle.noc_columns.specs.Picks.{port_at}
 use Rattle.noc_columns.specs.Words.{word}
 use Rattle.noc_columns.proofs.InjectionLemmas.{side-index, tails-are}
-use Rattle.noc_columns.proofs.PassLemmas.{all-next, word-here, word-other}
 use Rattle.noc_columns.proofs.SetLemmas.{either, leaf, sets-are, without}
 use Rattle.noc_columns.proofs.injection.bring.Goals as goal
 
--- the words of the local port stand one behind the other
-alone : (vcs width : ℕ) → width ≡ 1 → vcs * width ≡ vcs * 1
-alone vcs width one = ap (λ w. vcs * w) one
+-- what holds of the channels before four, and of these four, holds of all of them
+four-more : (P : ℕ → Type 0) (first g : ℕ) → ((k : ℕ) → k < 4 * g → P (first + k)) → ((j : ℕ) → j < 4 → P (first + 4 * g + j)) → (k : ℕ) → k < 4 * (g + 1) → P (first + k)
+four-more P first g done here k l = elim (cases_lt k (4 * g)) [
+  | inl below ↦ done k below
+  | inr above ↦
+      let j = k - 4 * g in
+      let whole : first + 4 * g + j ≡ first + k = omega (arith, above) in
+      let few : j < 4 = omega (arith, above, l) in
+      subst P whole (here j few)
+]
 
-pub loop-v-preserved : goal.loop-v-preserved
-loop-v-preserved c =
-    let v = c.loop-v.v in
-    let inv = c.loop-v.invariant in
+pub loop-g-preserved : goal.loop-g-preserved
+loop-g-preserved c =
+    let g = c.loop-g.g in
+    let inv = c.loop-g.invariant in
     let first = c.args.local.now.first in
-    let i = first + v in
-    let one = alone c.args.local.now.vcs c.args.local.now.width c.requires in
-    let few : i < 72 = omega (arith, one) in
-    let came = c.loop-v.came in
-    let injection = c.loop-v.injection in
     let old = c.args.injection.now in
-    let flits = bit_or (word i injection.went) (word i injection.begun) in
-    let tails = bit_and flits c.args.last in
-    let next = c.less.result in
-    let flits_is : flits ≡ bit_or (word i old.went) (word i old.begun) = ap₂ bit_or (ap (word i) inv.went) (ap (word i) inv.begun) in
-    let here_flits = word-here came.flits i flits inv.flits_size few in
-    let here_tails = word-here came.tails i tails inv.tails_size few in
+    let has = c.bring_four.ensures in
+    let came = c.bring_four.new.came in
+    let injecting = c.bring_four.new.injection.injecting in
+    let was = c.loop-g.injection in
     record {
-      flits_size = length-set came.flits i flits ∙ inv.flits_size;
-      tails_size = length-set came.tails i tails ∙ inv.tails_size;
-      size = length-set injection.injecting i next ∙ inv.size;
-      flits = all-next (λ k. word (first + k) (set came.flits i flits) ≡ bit_or (word (first + k) old.went) (word (first + k) old.begun)) v
-          (λ k l. word-other came.flits i flits (first + k) (omega (arith, l)) ∙ inv.flits k l)
-          (here_flits ∙ flits_is);
-      tails = all-next (λ k. word (first + k) (set came.tails i tails) ≡ bit_and (word (first + k) (set came.flits i flits)) c.args.last) v
+      flits = four-more (λ i. word i came.flits ≡ bit_or (word i old.went) (word i old.begun)) first g
+          (λ k l. (has.others (first + k) (inl (omega (arith, l)))).0 ∙ inv.flits k l)
+          (λ j l. has.flits j l ∙ ap₂ bit_or (ap (word (first + 4 * g + j)) inv.went) (ap (word (first + 4 * g + j)) inv.begun));
+      tails = four-more (λ i. word i came.tails ≡ bit_and (word i came.flits) c.args.last) first g
           (λ k l.
-          word-other came.tails i tails (first + k) (omega (arith, l)) ∙ inv.tails k l
-          ∙ ap (λ w. bit_and w c.args.last) (sym (word-other came.flits i flits (first + k) (omega (arith, l)))))
-          (here_tails ∙ ap (λ w. bit_and w c.args.last) (sym here_flits));
-      injecting = all-next (λ k. word (first + k) (set injection.injecting i next) ≡ less (bit_or (word (first + k) old.injecting) (word (first + k) old.begun)) (word (first + k) (set came.tails i tails))) v
+          let away = has.others (first + k) (inl (omega (arith, l))) in
+          away.1 ∙ inv.tails k l ∙ ap (λ w. bit_and w c.args.last) (sym away.0))
+          has.tails;
+      injecting = four-more (λ i. word i injecting ≡ less (bit_or (word i old.injecting) (word i old.begun)) (word i came.tails)) first g
           (λ k l.
-          word-other injection.injecting i next (first + k) (omega (arith, l)) ∙ inv.injecting k l
-          ∙ ap (less (bit_or (word (first + k) old.injecting) (word (first + k) old.begun))) (sym (word-other came.tails i tails (first + k) (omega (arith, l)))))
-          (word-here injection.injecting i next inv.size few ∙ c.less.ensures
-          ∙ ap₂ less (ap₂ bit_or (inv.left v (omega arith)) (ap (word i) inv.begun)) (sym here_tails));
-      left = λ k l. word-other injection.injecting i next (first + k) (omega (arith, l)) ∙ inv.left k (omega (arith, l));
-      went = inv.went;
-      begun = inv.begun;
-      other_flits = λ k away. word-other came.flits i flits k (apart k away) ∙ inv.other_flits k (wider k away);
-      other_tails = λ k away. word-other came.tails i tails k (apart k away) ∙ inv.other_tails k (wider k away);
-      credits = inv.credits;
+          let away = has.others (first + k) (inl (omega (arith, l))) in
+          away.2 ∙ inv.injecting k l ∙ ap (less (bit_or (word (first + k) old.injecting) (word (first + k) old.begun))) (sym away.1))
+          (λ j l.
+          let k = 4 * g + j in
+          let same : first + 4 * g + j ≡ first + k = omega arith in
+          let kept : word (first + 4 * g + j) was.injecting ≡ word (first + 4 * g + j) old.injecting =
+          subst (λ i. word i was.injecting ≡ word i old.injecting) (sym same) (inv.left k (omega arith)) in
+          has.injecting j l
+          ∙ ap₂ (λ a b. less (bit_or a b) (word (first + 4 * g + j) came.tails)) kept (ap (word (first + 4 * g + j)) inv.begun));
+      left = λ k l. (has.others (first + k) (inr (omega (arith, l)))).2 ∙ inv.left k (omega (arith, l));
+      went = ap (λ x. x.went) has.rest ∙ inv.went;
+      begun = ap (λ x. x.begun) has.rest ∙ inv.begun;
+      links_flits = λ k l. (has.others k (inl (omega (arith, l)))).0 ∙ inv.links_flits k l;
+      links_tails = λ k l. (has.others k (inl (omega (arith, l)))).1 ∙ inv.links_tails k l;
+      credits = has.credits ∙ inv.credits;
     }
-  where
-    apart : (k : ℕ) → (k < c.args.local.now.first) ⊎ (c.args.local.now.first + (c.loop-v.v + 1) ≤ k) → k ≢ c.args.local.now.first + c.loop-v.v
-    apart k (inl l) = omega (arith, l)
-    apart k (inr l) = omega (arith, l)
 
-    wider : (k : ℕ) → (k < c.args.local.now.first) ⊎ (c.args.local.now.first + (c.loop-v.v + 1) ≤ k) → (k < c.args.local.now.first) ⊎ (c.args.local.now.first + c.loop-v.v ≤ k)
-    wider k (inl l) = inl l
-    wider k (inr l) = inr (omega (arith, l))
-
-pub returns : goal.returns
-returns c =
+pub returns-clause-flits : goal.returns-clause-flits
+returns-clause-flits c = λ r.
     let local = c.args.local.now in
-    let n = port_at c.args.local.now 0 in
     let old = c.args.injection.now in
-    let inv = c.loop-v.invariant in
-    let came = c.loop-v.came in
-    let all : c.loop-v.v ≡ c.args.local.now.vcs = omega arith in
-    record {
-      flits = λ r. sets-are n r (either (leaf old.went) (leaf old.begun)) came.flits
-          (λ k l. subst (λ i. word i came.flits ≡ bit_or (word i old.went) (word i old.begun)) (sym (side-index local k c.requires)) (inv.flits k (omega (arith, l, all))));
-      tails = λ r. tails-are n r c.args.last came.flits came.tails
-          (λ k l. subst (λ i. word i came.tails ≡ bit_and (word i came.flits) c.args.last) (sym (side-index local k c.requires)) (inv.tails k (omega (arith, l, all))));
-      injecting = λ r. sets-are n r (without (either (leaf old.injecting) (leaf old.begun)) (leaf came.tails)) c.loop-v.injection.injecting
-          (λ k l. subst (λ i. word i c.loop-v.injection.injecting ≡ less (bit_or (word i old.injecting) (word i old.begun)) (word i came.tails)) (sym (side-index local k c.requires)) (inv.injecting k (omega (arith, l, all))));
-      rest = λ x. record { injecting = c.loop-v.injection.injecting; went = inv.went x; begun = inv.begun x };
-      others = λ k away. (inv.other_flits k (ended k away all), inv.other_tails k (ended k away all));
-      credits = inv.credits;
-    }
-  where
-    ended : (k : ℕ) → (k < c.args.local.now.first) ⊎ (c.args.local.now.first + c.args.local.now.vcs ≤ k) → c.loop-v.v ≡ c.args.local.now.vcs → (k < c.args.local.now.first) ⊎ (c.args.local.now.first + c.loop-v.v ≤ k)
-    ended k (inl l) all = inl l
-    ended k (inr l) all = inr (omega (arith, l, all))
+    sets-are (port_at local 0) r (either (leaf old.went) (leaf old.begun)) c.loop-g.came.flits
+    (λ k l. subst (λ i. word i c.loop-g.came.flits ≡ bit_or (word i old.went) (word i old.begun)) (sym (side-index local k c.requires.width)) (c.loop-g.invariant.flits k (omega (arith, l))))
 
-pub overflow_add-i : goal.overflow_add-i
-overflow_add-i c = omega (arith, alone c.args.local.now.vcs c.args.local.now.width c.requires)
+pub returns-clause-tails : goal.returns-clause-tails
+returns-clause-tails c = λ r.
+    let local = c.args.local.now in
+    tails-are (port_at local 0) r c.args.last c.loop-g.came.flits c.loop-g.came.tails
+    (λ k l. subst (λ i. word i c.loop-g.came.tails ≡ bit_and (word i c.loop-g.came.flits) c.args.last) (sym (side-index local k c.requires.width)) (c.loop-g.invariant.tails k (omega (arith, l))))
 
-pub bounds-came-i : goal.bounds-came-i
-bounds-came-i c = omega (arith, alone c.args.local.now.vcs c.args.local.now.width c.requires)
-
-pub bounds-came-i-in-loop-v : goal.bounds-came-i-in-loop-v
-bounds-came-i-in-loop-v c = omega (arith, alone c.args.local.now.vcs c.args.local.now.width c.requires)
-
-pub offset_bounds-came-i : goal.offset_bounds-came-i
-offset_bounds-came-i c = omega (arith, alone c.args.local.now.vcs c.args.local.now.width c.requires)
-
-pub offset_bounds-came-i-in-loop-v : goal.offset_bounds-came-i-in-loop-v
-offset_bounds-came-i-in-loop-v c = omega (arith, alone c.args.local.now.vcs c.args.local.now.width c.requires)
-
-pub bounds-injection-i : goal.bounds-injection-i
-bounds-injection-i c = omega (arith, alone c.args.local.now.vcs c.args.local.now.width c.requires)
-
-pub bounds-injection-i-in-loop-v : goal.bounds-injection-i-in-loop-v
-bounds-injection-i-in-loop-v c = omega (arith, alone c.args.local.now.vcs c.args.local.now.width c.requires)
-
-pub bounds-injection-i-in-loop-v-2 : goal.bounds-injection-i-in-loop-v-2
-bounds-injection-i-in-loop-v-2 c = omega (arith, alone c.args.local.now.vcs c.args.local.now.width c.requires)
-
-pub bounds-injection-i-in-loop-v-3 : goal.bounds-injection-i-in-loop-v-3
-bounds-injection-i-in-loop-v-3 c = omega (arith, alone c.args.local.now.vcs c.args.local.now.width c.requires)
-
-pub bounds-injection-i-in-loop-v-4 : goal.bounds-injection-i-in-loop-v-4
-bounds-injection-i-in-loop-v-4 c = omega (arith, alone c.args.local.now.vcs c.args.local.now.width c.requires)
-
-pub offset_bounds-injection-i : goal.offset_bounds-injection-i
-offset_bounds-injection-i c = omega (arith, alone c.args.local.now.vcs c.args.local.now.width c.requires)
-
-pub offset_bounds-injection-i-in-loop-v : goal.offset_bounds-injection-i-in-loop-v
-offset_bounds-injection-i-in-loop-v c = omega (arith, alone c.args.local.now.vcs c.args.local.now.width c.requires)
-
-pub offset_bounds-injection-i-in-loop-v-2 : goal.offset_bounds-injection-i-in-loop-v-2
-offset_bounds-injection-i-in-loop-v-2 c = omega (arith, alone c.args.local.now.vcs c.args.local.now.width c.requires)
-
-pub offset_bounds-injection-i-in-loop-v-3 : goal.offset_bounds-injection-i-in-loop-v-3
-offset_bounds-injection-i-in-loop-v-3 c = omega (arith, alone c.args.local.now.vcs c.args.local.now.width c.requires)
-
-pub offset_bounds-injection-i-in-loop-v-4 : goal.offset_bounds-injection-i-in-loop-v-4
-offset_bounds-injection-i-in-loop-v-4 c = omega (arith, alone c.args.local.now.vcs c.args.local.now.width c.requires)
+pub returns-clause-injecting : goal.returns-clause-injecting
+returns-clause-injecting c = λ r.
+    let local = c.args.local.now in
+    let old = c.args.injection.now in
+    sets-are (port_at local 0) r (without (either (leaf old.injecting) (leaf old.begun)) (leaf c.loop-g.came.tails)) c.loop-g.injection.injecting
+    (λ k l. subst (λ i. word i c.loop-g.injection.injecting ≡ less (bit_or (word i old.injecting) (word i old.begun)) (word i c.loop-g.came.tails)) (sym (side-index local k c.requires.width)) (c.loop-g.invariant.injecting k (omega (arith, l))))

@@ -1,5 +1,6 @@
-use Rattle.std.proofs.Common.{arith}
+use Rattle.std.proofs.Common.{Bool, ap, arith}
 use Rattle.noc_columns.specs.Near.{comes_near}
+use Rattle.noc_columns.specs.declared.channels.Links.{Links}
 use Rattle.noc_columns.proofs.NearLemmas.{four-next}
 use Rattle.noc_columns.proofs.over_links.gather.Goals as goal
 
@@ -9,10 +10,12 @@ loop-g-preserved c =
     let inv = c.loop-g.invariant in
     let near = c.args.near.now in
     let left = c.args.left.now in
+    let four = c.near_four-four.result in
+    let comes = c.near_four-four.ensures in
     record {
-      flits = four-next c.loop-g.came.flits c.put_four.new.words c.near_four-flits.result (λ k r. comes_near near left.flits k r) g inv.flits c.near_four-flits.ensures c.put_four.ensures.here c.put_four.ensures.others;
-      tails = four-next c.loop-g.came.tails c.put_four-in-loop-g.new.words c.near_four-tails.result (λ k r. comes_near near left.tails k r) g inv.tails c.near_four-tails.ensures c.put_four-in-loop-g.ensures.here c.put_four-in-loop-g.ensures.others;
-      credits = four-next c.loop-g.came.credits c.put_four-in-loop-g-2.new.words c.near_four-credits.result (λ k r. comes_near near left.credits k r) g inv.credits c.near_four-credits.ensures c.put_four-in-loop-g-2.ensures.here c.put_four-in-loop-g-2.ensures.others;
+      flits = four-next c.loop-g.came.flits c.put_four.new.words four.flits (λ k r. comes_near near left.flits k r) g inv.flits (λ j r l few. ap (λ (b : Links Bool). b.flits) (comes j r l few)) c.put_four.ensures.here c.put_four.ensures.others;
+      tails = four-next c.loop-g.came.tails c.put_four-in-loop-g.new.words four.tails (λ k r. comes_near near left.tails k r) g inv.tails (λ j r l few. ap (λ (b : Links Bool). b.tails) (comes j r l few)) c.put_four-in-loop-g.ensures.here c.put_four-in-loop-g.ensures.others;
+      credits = four-next c.loop-g.came.credits c.put_four-in-loop-g-2.new.words four.credits (λ k r. comes_near near left.credits k r) g inv.credits (λ j r l few. ap (λ (b : Links Bool). b.credits) (comes j r l few)) c.put_four-in-loop-g-2.ensures.here c.put_four-in-loop-g-2.ensures.others;
     }
 
 pub returns-clause-flits : goal.returns-clause-flits

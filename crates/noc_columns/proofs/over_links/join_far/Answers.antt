@@ -10,10 +10,10 @@ pub returns-clause-here : goal.returns-clause-here
 returns-clause-here c = λ r few.
     let old = c.args.to.now in
     let i = c.args.index in
-    let x = bit_or (word i old) c.turned.result in
+    let x = bit_or (word i old) c.turned_alone.result in
     ap (λ w. has_bit w r) (word-here old i x (omega arith) (omega (arith, c.requires.index)))
-    ∙ either_members (word i old) c.turned.result r
-    ∙ ap (λ b. has_bit (word i old) r || b) (c.turned.ensures r few)
+    ∙ either_members (word i old) c.turned_alone.result r
+    ∙ ap (λ b. has_bit (word i old) r || b) (c.turned_alone.ensures r few)
 
 pub returns-clause-others : goal.returns-clause-others
 returns-clause-others c = λ k other. word-other c.args.to.now c.args.index _ k other

@@ -15,7 +15,7 @@ returns-then-vcs-eq2 g c =
     let new = c.pick_all.new in
     let from = c.args.candidates.now in
     record {
-      picked = subst (Picked from.standing.now from.ahead.now from.sends.now new.picked new.past c.pick_all.result) c.known.ensures c.pick_all.ensures;
+      picked = subst (Picked from.standing.now from.ahead.now from.sends.now new.picked new.past new.picks) c.known.ensures c.pick_all.ensures;
       rest = refl;
     }
 
@@ -24,7 +24,7 @@ returns-then-vcs-eq4 g c =
     let new = c.pick_all-then-vcs-eq4.new in
     let from = c.args.candidates.now in
     record {
-      picked = subst (Picked from.standing.now from.ahead.now from.sends.now new.picked new.past c.pick_all-then-vcs-eq4.result) c.known-then-vcs-eq4.ensures c.pick_all-then-vcs-eq4.ensures;
+      picked = subst (Picked from.standing.now from.ahead.now from.sends.now new.picked new.past new.picks) c.known-then-vcs-eq4.ensures c.pick_all-then-vcs-eq4.ensures;
       rest = refl;
     }
 
@@ -33,7 +33,7 @@ returns-then-vcs-eq8 g c =
     let new = c.pick_all-then-vcs-eq8.new in
     let from = c.args.candidates.now in
     record {
-      picked = subst (Picked from.standing.now from.ahead.now from.sends.now new.picked new.past c.pick_all-then-vcs-eq8.result) c.known-then-vcs-eq8.ensures c.pick_all-then-vcs-eq8.ensures;
+      picked = subst (Picked from.standing.now from.ahead.now from.sends.now new.picked new.past new.picks) c.known-then-vcs-eq8.ensures c.pick_all-then-vcs-eq8.ensures;
       rest = refl;
     }
 
@@ -42,6 +42,6 @@ returns-else-vcs-eq8 g c =
     let new = c.pick_all-else-vcs-eq8.new in
     let from = c.args.candidates.now in
     record {
-      picked = subst (Picked from.standing.now from.ahead.now from.sends.now new.picked new.past c.pick_all-else-vcs-eq8.result) c.known-else-vcs-eq8.ensures c.pick_all-else-vcs-eq8.ensures;
+      picked = subst (Picked from.standing.now from.ahead.now from.sends.now new.picked new.past new.picks) c.known-else-vcs-eq8.ensures c.pick_all-else-vcs-eq8.ensures;
       rest = refl;
     }

@@ -21,14 +21,14 @@ loop-k-preserved c =
     let few : c.loop-k.k < 72 = omega (arith, all) in
     let distance = c.loop-k.neighbours.distance in
     let mask = c.loop-k.neighbours.mask in
-    let d = c.distance_by.result in
+    let d = c.distance_by-distance.result in
     let m = c.mask_of.result in
     record {
       distances = length-set distance k d ∙ inv.distances;
       masks = length-set mask k m ∙ inv.masks;
       distance = all-next (λ j. word j (set distance k d) ≡ distance_by g (j % links) round) k
           (λ j l. word-other distance k d j (omega (arith, l)) ∙ inv.distance j l)
-          (word-here distance k d inv.distances few ∙ c.distance_by.ensures.is);
+          (word-here distance k d inv.distances few ∙ c.distance_by-distance.ensures.is);
       mask = all-next (λ j. (r : ℕ) → r < 64 → has_bit (word j (set mask k m)) r ≡ stands_in g (64 * b + r) (j % links) round b) k
           (λ j l r low. ap (λ w. has_bit w r) (word-other mask k m j (omega (arith, l))) ∙ inv.mask j l r low)
           (λ r low. ap (λ w. has_bit w r) (word-here mask k m inv.masks few) ∙ c.mask_of.ensures r low);
@@ -84,5 +84,5 @@ nonzero_rem-k c = omega (arith, c.ports-links.ensures.some)
 pub nonzero_rem-k-in-loop-k : goal.nonzero_rem-k-in-loop-k
 nonzero_rem-k-in-loop-k c = omega (arith, c.ports-links.ensures.some)
 
-pub distance_by-requires : goal.distance_by-requires
-distance_by-requires c = link-below c.loop-k.k (c.ports-links.result - 1) (local_port c.args.shape.now) (omega (arith, c.ports-links.ensures.some)) (omega (arith, c.ports-links.ensures.local))
+pub distance_by-distance-requires : goal.distance_by-distance-requires
+distance_by-distance-requires c = link-below c.loop-k.k (c.ports-links.result - 1) (local_port c.args.shape.now) (omega (arith, c.ports-links.ensures.some)) (omega (arith, c.ports-links.ensures.local))

@@ -1,5 +1,6 @@
-use Rattle.std.proofs.Common.{◌≡◌, ℕ, ◌+◌, ◌<◌, ◌∙◌, true, List, ap, ap₂, sym, subst, slice_index}
+use Rattle.std.proofs.Common.{◌≡◌, ℕ, ◌+◌, ◌<◌, ◌∙◌, true, List, ap, ap₂, sym, subst, slice_index, arith}
 use Rattle.std.specs.Prelude.{◌&&◌, not, nat_eq, if◌then◌else◌}
+use Rattle.std.proofs.lemmas.Bool.{and_parts}
 use Rattle.noc_packet.specs.Set.{has_bit}
 use Rattle.noc_sets.specs.Turns.{first_bit, in_turn}
 use Rattle.noc_sets.specs.Unions.{some_below}
@@ -10,7 +11,8 @@ use Rattle.noc_columns.proofs.PassLemmas.{some-same}
 use Rattle.noc_columns.proofs.PickLemmas.{moved-bit}
 use Rattle.noc_columns.proofs.PortLemmas.{lowest-alone, member-below, one-both, sets-same}
 use Rattle.noc_columns.proofs.SetLemmas.{below-same}
-use Rattle.noc_columns.proofs.SupplyLemmas.{member-is, number}
+use Rattle.noc_columns.proofs.RouterLemmas.{first-among}
+use Rattle.noc_columns.proofs.SupplyLemmas.{member-is, no-fours, number}
 use Rattle.noc_columns.proofs.switch.take.Goals as goal
 
 pub returns : goal.returns
@@ -54,7 +56,7 @@ returns c =
           lowest-alone (in_turn (set_of (n q) r asks) (set_of (n q) r old)) p d (ap (λ s. has_bit s p) (sym (picked q r l).first) ∙ here) (ap (λ s. has_bit s d) (sym (picked q r l).first) ∙ member-is (n q) r d taken b ∙ e) in
           let has = λ (set : List ℕ) (w : ℕ) (told : has_bit w r ≡ some_below outputs.links.vcs (λ d. has_bit (word ((n q).index d) taken) r && has_bit (slice_index set d) r)).
           told ∙ one-both outputs.links.vcs (λ d. has_bit (word ((n q).index d) taken) r) (λ d. has_bit (slice_index set d) r) p few (sym (member-is (n q) r p taken few) ∙ here) alone in (
-            λ i. number (has picks.vc.ones _ (c.of_taken-2.ensures q r (port q l)) i) (has picks.vc.twos _ (c.of_taken-3.ensures q r (port q l)) i) (has picks.vc.fours _ (c.of_taken-4.ensures q r (port q l)) i),
+            λ i. number (has picks.vc.ones _ (c.of_taken-2.ensures q r (port q l)) i) (has picks.vc.twos _ (c.of_taken-3.ensures q r (port q l)) i) (has picks.vc.fours _ (c.fours_of.ensures q r (port q l)) i),
             has picks.tail _ (c.of_taken.ensures q r (port q l)),
           );
       sends = λ r p l.
@@ -62,3 +64,18 @@ returns c =
           ∙ ap (λ w. some_below (w + 1) (λ q. has_bit (word ((n q).index p) taken) r)) out.width
           ∙ some-same (ports.links.width + 1) _ _ (λ q b. sym (member-is (n q) r p taken (input p l)) ∙ ap (λ s. has_bit s p) (takes q r b));
     }
+
+pub fours_of-requires : goal.fours_of-requires
+fours_of-requires c = λ four q p r l m few is.
+    let ports = c.args.ports.now in
+    let picks = c.args.picks.now in
+    let outputs = c.outputs-outputs.result in
+    let out = c.outputs-outputs.ensures in
+    let n = port_of outputs q in
+    let asks = set_of n r c.ask.new.asks in
+    let ahead = set_of n r c.args.ahead.now in
+    let taken = member-is n r p c.pick_each-any.new.picked m ∙ is in
+    let asked = first-among asks ahead p (ap (λ s. has_bit s p) (sym (c.pick_each-any.ensures.picked q r l).first) ∙ taken) in
+    let any = (and_parts ((picks_in picks r).any p) (nat_eq ((picks_in picks r).port p) q) (sym (c.ask.ensures q p r l m) ∙ sym (member-is n r p c.ask.new.asks m) ∙ asked)).0 in
+    let below = c.requires r p few (subst (λ w. p < w) out.inputs m) any in
+    no-fours (has_bit (word p picks.vc.ones) r) (has_bit (word p picks.vc.twos) r) (has_bit (word p picks.vc.fours) r) (omega (arith, below))

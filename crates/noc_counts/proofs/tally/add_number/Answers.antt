@@ -17,7 +17,7 @@ loop-level-preserved c =
     record {
       size = length-set c.loop-level.bits level _ ∙ c.loop-level.invariant.size;
       carried = carried-next _ _ _ _ _ _ _ c.where_bit-more.result.now _ _ level c.loop-level.invariant.carried (omega arith)
-          (λ j k. chosen-level c.args.times level j k c.args.set.now (replicate 36 0) c.where_bit-more.result.now (omega arith) zero-word c.where_bit-more.ensures)
+          (λ j k. chosen-level c.args.times level j k c.args.set.now (replicate 32 0) c.where_bit-more.result.now (omega arith) zero-word c.where_bit-more.ensures)
           c.add_pending.ensures.bits c.add_pending.ensures.carry;
     }
 

@@ -9,12 +9,12 @@ loop-level-preserved c =
     let level = c.loop-level.level in
     let inv = c.loop-level.invariant in
     let levels = c.loop-level.levels in
-    let none : List ℕ = replicate 36 0 in
+    let none : List ℕ = replicate 32 0 in
     record {
       size = length-set levels level none ∙ inv.size;
-      done = all-next (λ k. (i : ℕ) → i < 36 → word i (slice_index_or (set levels level none) k []) ≡ 0) level
+      done = all-next (λ k. (i : ℕ) → i < 32 → word i (slice_index_or (set levels level none) k []) ≡ 0) level
           (λ k l i few. let other : k ≢ level = omega (arith, l) in ap (word i) (get_or-set_other levels level k none [] other) ∙ inv.done k l i few)
-          (λ i few. ap (word i) (get_or-set_same levels level none [] (omega (arith, inv.size))) ∙ get_or-replicate 36 i 0 0 few);
+          (λ i few. ap (word i) (get_or-set_same levels level none [] (omega (arith, inv.size))) ∙ get_or-replicate 32 i 0 0 few);
     }
 
 pub returns : goal.returns

@@ -1,10 +1,13 @@
-use Rattle.std.proofs.Common.{◌<◌, lit<, refl, subst, sym}
+use Rattle.std.proofs.Common.{◌-◌, ◌%◌, ◌<◌, ◌∙◌, ap, lit<, refl, subst, sym}
 use Rattle.noc_columns.proofs.PlaceLemmas.{zeros}
 use Rattle.noc_cycles.proofs.AroundLemmas.{around-next, pushed, written}
 use Rattle.noc_cycles.proofs.around.all_around.Goals as goal
 
 pub invariant_of-push : goal.invariant_of-push
-invariant_of-push c = record { near = λ k. subst (λ n. n < 64) (sym (zeros 72 k)) (lit< tt) }
+invariant_of-push c = record {
+  near = λ k. subst (λ n. n < 64) (sym (zeros 72 k)) (lit< tt);
+  turn = λ k. zeros 72 k ∙ ap (λ n. (64 - n) % 64) (sym (zeros 72 k));
+}
 
 pub loop-block-preserved : goal.loop-block-preserved
 loop-block-preserved c =

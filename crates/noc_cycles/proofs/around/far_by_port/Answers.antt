@@ -1,26 +1,22 @@
-use Rattle.std.proofs.Common.{◌≡◌, ◌∙◌, ap, arith, length}
+use Rattle.std.proofs.Common.{◌≡◌, ◌+◌, arith, subst, sym}
 use Rattle.noc_cycles.proofs.Common.{local_port}
-use Rattle.noc_cycles.proofs.AroundLemmas.{far-next, one-more}
+use Rattle.noc_cycles.proofs.AroundLemmas.{AreFarTo, far-next, far-none, far-all}
 use Rattle.noc_cycles.proofs.around.far_by_port.Goals as goal
 
 pub loop-port-init : goal.loop-port-init
-loop-port-init c = record { long = ap length c.new-far.ensures.items; each = λ p l. absurd (omega (arith, l)) }
+loop-port-init c = subst (AreFarTo c.args.shape.now c.args.block 0) (sym c.new-far.ensures.items) (far-none c.args.shape.now c.args.block)
 
 pub far_of-requires-clause-port : goal.far_of-requires-clause-port
-far_of-requires-clause-port c = omega (arith, c.ports-port-end.ensures.local)
+far_of-requires-clause-port c = omega (arith, c.ports-ports.ensures.local)
 
 pub loop-port-preserved : goal.loop-port-preserved
 loop-port-preserved c =
+    let g = c.args.shape.now in
+    let b = c.args.block in
     let n = c.loop-port.port in
-    let all = c.loop-port.far.items in
-    let items = c.push.new.self.items in
-    let inv = c.loop-port.invariant in
-    record {
-      long = one-more all items _ n c.in_ok-push.ensures.items inv.long;
-      each = far-next c.args.shape.now c.args.block n all items _ c.in_ok-push.ensures.items inv.long inv.each c.in_ok-far_of.ensures;
-    }
+    subst (AreFarTo g b (n + 1)) (sym c.in_ok-append.ensures.items) (far-next g b n c.loop-port.far.items _ c.loop-port.invariant c.in_ok-more.ensures)
 
 pub returns : goal.returns
 returns c =
-    let all : c.loop-port.port ≡ local_port c.args.shape.now = omega (arith, c.ports-port-end.ensures.local) in
-    record { ports = c.loop-port.invariant.long ∙ all; each = λ p l. c.loop-port.invariant.each p (omega (arith, l, all)) }
+    let all : c.loop-port.port ≡ local_port c.args.shape.now = omega (arith, c.ports-ports.ensures.local) in
+    far-all c.args.shape.now c.args.block c.loop-port.port c.loop-port.far.items all c.loop-port.invariant

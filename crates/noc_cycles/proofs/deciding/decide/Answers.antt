@@ -8,7 +8,7 @@ use Rattle.noc_cycles.proofs.ConcludingLemmas.{none-within}
 use Rattle.noc_columns.proofs.UsedLemmas.{channels-few, index-below}
 use Rattle.noc_columns.specs.Allotted.{HasAllotted, allotment_at}
 use Rattle.noc_columns.specs.Words.{IsWithin}
-use Rattle.noc_cycles.proofs.DecidingLemmas.{decided-then, found_at}
+use Rattle.noc_cycles.proofs.DecidingLemmas.{decided-then, found_at, sends-then}
 use Rattle.noc_cycles.proofs.deciding.decide.Goals as goal
 
 pub allocate_if-requires : goal.allocate_if-requires
@@ -30,6 +30,20 @@ route_if-requires-clause-may c = record {
       let node = may.node_is (λ none. true≢false (sym e ∙ ap (λ s. has_bit s k) none ∙ has_bit-zero k)) in
       (omega (arith, node), may.heads k e);
 }
+
+pub send-requires : goal.send-requires
+send-requires c = λ r i l e.
+    let pattern = c.args.pattern.now in
+    let ports = pattern.table.ports in
+    let n = channels_of ports in
+    let may = c.requires.may r l in
+    let before = c.clear.new.self in
+    let got = c.allocate_if.new in
+    let clear = none-within n r 64 before.granted (λ k m. let low = index-below ports k m in let all = channels-few ports in omega (arith, low, all)) c.clear.ensures.granted in
+    sends-then pattern r c.args.block.now before.granted c.clear-2.new.words clear got.marks got.grants got.lost
+    (λ e. subst (λ s. HasAllotted ports.links.vcs (found_at n c.args.block.now.marks before.granted s c.clear-2.new.words r) (allotment_at n got.marks got.grants got.lost r)) c.clear.ensures.sends (c.allocate_if.ensures.asked r l e))
+    (λ e. c.allocate_if.ensures.others r e ∙ ap (λ s. found_at n c.args.block.now.marks before.granted s c.clear-2.new.words r) c.clear.ensures.sends)
+    may.waiting i (may.sends i e)
 
 pub returns-clause-decided : goal.returns-clause-decided
 returns-clause-decided c = λ layout r no_credit s l shows.

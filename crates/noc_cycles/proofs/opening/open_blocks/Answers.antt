@@ -13,7 +13,7 @@ invariant_of-push c = record {
 
 pub invariant_of-push-in-loop-number : goal.invariant_of-push-in-loop-number
 invariant_of-push-in-loop-number c = record {
-  unasked = λ o few. get_or-replicate 64 o 0 0 few;
+  unasked = λ o few. get_or-replicate 65 o 0 0 (omega (arith, few));
   asks = λ r few. nobody-asks r _ _ few;
   fit = nothing-fits;
 }

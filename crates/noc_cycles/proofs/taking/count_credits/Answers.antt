@@ -28,8 +28,8 @@ returns-clause-credits c = λ layout r fits few.
       turn = λ o. word o (slice_index_or marks.turns r []);
     } in
     has-credits pattern r layout (set_of links r c.args.work.now.came.credits) h k (returned_by (set_of links r) c.take_credits-home.new.returned)
-    c.take_credits-home.new.returned.some (set_of (channels_of ports) r c.look_up.new.supplied) fits few
-    (c.take_credits-home.ensures.credits links r (links-within pattern)) refl
+    c.take_credits-home.new.returned.some c.take_credits-home.new.outputs.draining (set_of (channels_of ports) r c.look_up.new.supplied) fits few
+    (c.take_credits-home.ensures.credits links r (links-within pattern)) refl refl
     (λ j m. none-above links r old.outputs.draining j m) (c.free_links.ensures.idle r few)
     (λ i. record h {
       outputs = outputs;
@@ -39,4 +39,4 @@ returns-clause-credits c = λ layout r fits few.
       set = λ j. word j (slice_index_or (kept.sets i) r []);
       turn = λ o. word o (slice_index_or (kept.turns i) r []);
     })
-    (λ i l below in_port. c.look_up.ensures (channels_of ports) r i (all-within pattern) l below in_port)
+    (λ i l below in_vc kept. c.look_up.ensures (channels_of ports) r i (all-within pattern) l few below in_vc kept)

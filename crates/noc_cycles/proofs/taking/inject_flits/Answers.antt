@@ -1,4 +1,4 @@
-use Rattle.std.proofs.Common.{◌≢◌, ℕ, ◌+◌, ◌*◌, ◌<◌, ◌≤◌, ◌∙◌, ap, ap₂, arith, bit_or, inl, refl, slice_index, subst, sym}
+use Rattle.std.proofs.Common.{◌≢◌, ℕ, ◌+◌, ◌*◌, ◌<◌, ◌≤◌, ◌∙◌, ap, ap₂, arith, bit_or, refl, slice_index, subst, sym}
 use Rattle.std.specs.Prelude.{if◌then◌else◌, not, nat_eq}
 use Rattle.std.proofs.lemmas.List.{length-map}
 use Rattle.noc_packet.proofs.SetLemmas.{has_bit-below}
@@ -43,8 +43,8 @@ returns-clause-injected c = λ layout r fits few.
       source = source_in c.send_all-last.new.sources r;
     } in
     has-injected (all-sends c r few) layout fits few came k (set_of (channels_of ports) r new.flits) (set_of (channels_of ports) r new.tails) last (c.send_all-last.ensures.last r few)
-    (in-parts ports r new.flits ∙ ap₂ bit_or (links-kept pattern r old.flits new.flits (λ j l. (c.bring.ensures.others j (inl l)).0)) (ap (λ w. up_by w (ports.links.width * ports.links.vcs)) flits))
-    (in-parts ports r new.tails ∙ ap₂ bit_or (links-kept pattern r old.tails new.tails (λ j l. (c.bring.ensures.others j (inl l)).1)) (ap (λ w. up_by w (ports.links.width * ports.links.vcs)) tails))
+    (in-parts ports r new.flits ∙ ap₂ bit_or (links-kept pattern r old.flits new.flits (λ j l. (c.bring.ensures.links j l).0)) (ap (λ w. up_by w (ports.links.width * ports.links.vcs)) flits))
+    (in-parts ports r new.tails ∙ ap₂ bit_or (links-kept pattern r old.tails new.tails (λ j l. (c.bring.ensures.links j l).1)) (ap (λ w. up_by w (ports.links.width * ports.links.vcs)) tails))
     (c.bring.ensures.injecting r ∙ ap₂ (λ i t. less (bit_or (set_of local r i) (set_of local r c.inject-went.new.injection.begun)) t) c.inject-went.ensures.injecting tails)
     (λ i. c.begin_if.ensures r i few)
     (c.send_all-last.ensures.sources r few ∙ ap (λ a. begun_if starts (has_bit c.inject-went.result.1 r) (sent_if starts (has_bit c.inject-went.result.0 r) (record h.source { due = slice_index a r }))) c.pass.ensures.at)

@@ -14,7 +14,7 @@ pub loop-verdict-preserved : goal.loop-verdict-preserved
 loop-verdict-preserved c =
     let verdict = c.loop-verdict.verdict in
     let next : 4 * verdict + 4 ≡ 4 * (verdict + 1) = omega arith in
-    subst (λ n. HasRaised (set_sum c.args.sets.now 16) 0 n c.args.self.now c.add_if.new.self (replicate 36 0) c.add_if.new.carry) next
+    subst (λ n. HasRaised (set_sum c.args.sets.now 16) 0 n c.args.self.now c.add_if.new.self (replicate 32 0) c.add_if.new.carry) next
     (raised-on _ _ _ _ _ _ _ _ _ _ (omega arith) (omega arith) c.loop-verdict.invariant c.add_if.ensures)
 
 pub returns : goal.returns

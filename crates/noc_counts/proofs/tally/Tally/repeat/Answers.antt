@@ -7,7 +7,7 @@ use Rattle.noc_counts.proofs.tally.Tally.repeat.Goals as goal
 pub returns : goal.returns
 returns c = λ times i r few small.
     let self = c.args.self.now in
-    let none : List ℕ = replicate 36 0 in
+    let none : List ℕ = replicate 32 0 in
     let ones = λ (w : List ℕ). sum_of (word i self.ones) (word i w) (word i none) in
     let over = λ (w : List ℕ). carry_over (word i self.ones) (word i w) (word i none) in
     let twos = λ (w : List ℕ). sum_of (word i self.twos) (word i w) (word i c.add_pending.new.carry) in

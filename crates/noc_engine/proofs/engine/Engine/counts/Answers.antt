@@ -28,5 +28,12 @@ counts_of-requires-clause-channel c =
     let may = c.requires in
     (counts-fit may.0 may.1 may.2.0 c.args.self.now may.2.1 c.args.router c.args.port c.args.vc may.3 may.4 may.5).0
 
+pub index-block-requires : goal.index-block-requires
+index-block-requires c =
+    let may = c.requires in
+    let fits = counts-fit may.0 may.1 may.2.0 c.args.self.now may.2.1 c.args.router c.args.port c.args.vc may.3 may.4 may.5 in
+    omega (arith, fits.3, c.args.self.now.tile.blocks.ok.0)
+
 pub returns : goal.returns
-returns c = λ net n shows here port vc. counts-are net n shows.0 c.args.self.now shows.1 c.args.router c.args.port c.args.vc c.index-counts.result.now c.counts_of.result here port vc c.index-counts.ensures c.counts_of.ensures
+returns c = λ net n shows here port vc.
+    counts-are net n shows.0 c.args.self.now shows.1 c.args.router c.args.port c.args.vc c.index-counts.result.now c.index-block.result.now c.counts_of.result here port vc c.index-counts.ensures c.index-block.ensures c.counts_of.ensures

@@ -17,7 +17,9 @@ invariant_of-columns c =
     let long : length starts ≡ c.in_ok-starts.starts.len = omega (arith, c.keep_all-kept.auto.starts, c.deref_mut-3.ensures.len) in
     let size : length starts ≡ nodes f.shape * f.classes * width f.shape f.vcs = long ∙ c.in_ok-starts.ensures.len ∙ c.columns.ensures.value in
     let all : AreColumns f starts sets.len = record { long = size; within = all-within f table sets.items starts sets.len (width-some f) c.in_ok-sets.ensures.kept } in
-    record { all = subst (λ (xs : List ℕ). AreColumns f xs sets.len) (sym (all-written starts c.in_ok-starts.starts.items c.in_ok-starts.starts.len long)) all }
+    let list = c.in_ok-of.field-0 in
+    let many : sets.len ≡ length list = omega (arith, ap (λ (xs : List ℕ). length xs) c.in_ok-of.ensures, sets.ok.0) in
+    record { all = subst (λ (xs : List ℕ). AreColumns f xs (length list)) (sym (all-written starts c.in_ok-starts.starts.items c.in_ok-starts.starts.len long)) (subst (λ m. AreColumns f starts m) many all) }
 
 pub returns-clause-table : goal.returns-clause-table
 returns-clause-table c =
@@ -26,7 +28,8 @@ returns-clause-table c =
     let starts = c.keep_all-kept.new.starts in
     let sets = c.in_ok-sets.sets in
     let long : length starts ≡ c.in_ok-starts.starts.len = omega (arith, c.keep_all-kept.auto.starts, c.deref_mut-3.ensures.len) in
-    ap (λ (xs : List ℕ). table_of f sets.items xs) (all-written starts c.in_ok-starts.starts.items c.in_ok-starts.starts.len long)
+    ap (λ (xs : List ℕ). table_of f c.in_ok-of.field-0 xs) (all-written starts c.in_ok-starts.starts.items c.in_ok-starts.starts.len long)
+    ∙ ap (λ (xs : List ℕ). table_of f xs starts) c.in_ok-of.ensures
     ∙ table-kept f table sets.items starts sets.len (omega (arith, f.all_nodes, f.some_nodes)) (width-some f) (length-tabulate _ _) c.in_ok-sets.ensures.kept
 
 pub returns-clause-first : goal.returns-clause-first

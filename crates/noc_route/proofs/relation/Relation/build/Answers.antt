@@ -36,20 +36,20 @@ returns-in_err-columns_of-clause-exact c =
 pub invariant_of-result : goal.invariant_of-result
 invariant_of-result c =
     let columns = c.in_ok-columns_of.field-0 in
-    let P : Sizes → Type 0 = λ f. IsRelation (routes_in f (table_of f columns.sets.items columns.starts.items)) in
+    let P : Sizes → Type 0 = λ f. IsRelation (routes_in f (table_of f columns.sets columns.starts.items)) in
     subst P (sym c.in_ok-columns_of.ensures.sizes) c.in_ok-columns_of.ensures.exact.built
 
 pub returns-clause-exact : goal.returns-clause-exact
 returns-clause-exact c =
     let s = c.in-Some.ensures.some in
     let columns = c.in_ok-columns_of.field-0 in
-    let P : Sizes → Type 0 = λ f. IsRelationOfRule (routing_in c.in_ok-map.map.sizes c.args.rule) (routes_in f (table_of f columns.sets.items columns.starts.items)) in
-    let Q : RelationParts → Type 0 = λ g. IsRelationOfRule g (routes_in columns.sizes (table_of columns.sizes columns.sets.items columns.starts.items)) in
+    let P : Sizes → Type 0 = λ f. IsRelationOfRule (routing_in c.in_ok-map.map.sizes c.args.rule) (routes_in f (table_of f columns.sets columns.starts.items)) in
+    let Q : RelationParts → Type 0 = λ g. IsRelationOfRule g (routes_in columns.sizes (table_of columns.sizes columns.sets columns.starts.items)) in
     subst Q (routing_in-sizes c.in-Some.sizes c.args.shape.now c.args.vcs c.args.classes c.args.rule s.1 s.2 s.3)
     (subst (λ (f : Sizes). Q (routing_in f c.args.rule)) c.in_ok-map.ensures (subst P (sym c.in_ok-columns_of.ensures.sizes) c.in_ok-columns_of.ensures.exact))
 
 pub returns-clause-built : goal.returns-clause-built
 returns-clause-built c =
     let columns = c.in_ok-columns_of.field-0 in
-    let P : Sizes → Type 0 = λ f. IsRelation (routes_in f (table_of f columns.sets.items columns.starts.items)) in
+    let P : Sizes → Type 0 = λ f. IsRelation (routes_in f (table_of f columns.sets columns.starts.items)) in
     subst P (sym c.in_ok-columns_of.ensures.sizes) c.in_ok-columns_of.ensures.exact.built

@@ -24,7 +24,7 @@ pub returns-clause-value : goal.returns-clause-value
 returns-clause-value c =
     let columns = c.self.inside.columns in
     let f = columns.sizes in
-    let sets = columns.sets.items in
+    let sets = columns.sets in
     let starts = columns.starts.items in
     let pair = c.args.router * f.classes + c.args.class in
     let input = c.args.in_port * f.vcs + c.args.in_vc in

@@ -34,7 +34,7 @@ pub invariant_of-self : goal.invariant_of-self
 invariant_of-self c =
     let r = c.self.inside in
     let arbiters = c.advance.ensures in
-    IsRouter-kept r (record r { arbiters = c.advance.new.self }) c.self.invariant refl refl refl refl refl refl refl refl (λ i h. h) refl refl (ap (λ (t : SizedArbiters). t.ports) arbiters) (ap (λ (t : SizedArbiters). t.vcs) arbiters)
+    IsRouter-kept r (record r { arbiters = c.advance.new.self }) c.self.invariant refl refl refl refl refl refl refl refl (λ i h. h) refl refl refl (ap (λ (t : SizedArbiters). t.ports) arbiters) (ap (λ (t : SizedArbiters). t.vcs) arbiters)
 
 pub returns-clause-view : goal.returns-clause-view
 returns-clause-view c = λ relation is.

@@ -13,6 +13,7 @@ invariant_of-result c = record {
   grid = c.ports-ports.ensures.grid;
   node = omega (arith, ap nodes c.shape.ensures.value);
   ports = c.ports-ports.ensures.value;
+  neighbours = c.neighbours_of.ensures;
   some_vc = omega arith;
   few_vcs = omega arith;
   channels = ap (λ (s : ChannelStates). s.size) c.in_ok-parts.ensures.channels;
@@ -27,7 +28,7 @@ invariant_of-result c = record {
 
 pub returns : goal.returns
 returns c =
-    opening-is c.args.node c.ports-ports.result c.vcs-vcs.result c.args.depth c.shape.result.now c.new-2.result c.in_ok-parts.parts.0 _ c.in_ok-parts.parts.1 c.in_ok-parts.parts.2 c.in_ok-arrivals.arrivals c.args.starts.items c.args.ends.items
+    opening-is c.args.node c.ports-ports.result c.vcs-vcs.result c.args.depth c.shape.result.now c.new-2.result c.in_ok-parts.parts.0 _ c.in_ok-parts.parts.1 c.in_ok-parts.parts.2 c.in_ok-arrivals.arrivals c.neighbours_of.result c.args.starts.items c.args.ends.items
     c.ports-ports.ensures.grid c.ports-ports.ensures.value c.new-2.ensures.queue c.new-2.ensures.vc
     c.in_ok-parts.ensures.channels (ap (replicate 6) c.idle.ensures)
     c.in_ok-parts.ensures.tally
