@@ -36,3 +36,4 @@ pub mod SourceLemmas
 pub mod ByRouterLemmas
 pub mod BackLemmas
 pub mod UsedLemmas
+pub mod ComeLemmas

@@ -29,9 +29,8 @@ pub fn allocate(table: &ChannelTable, marks: &mut Marks, grants: &mut Grants, lo
 }
 
 // Allocates the output channels of one router in which one channel alone waits. It is granted what
-// it asks for, so no request is written or read, and nobody loses. (What calls this is not to grow
-// by it.)
-#[inline(never)]
+// it asks for, so no request is written or read, and nobody loses.
+#[inline(always)]
 fn allocate_alone(table: &ChannelTable, router: usize, marks: &mut Marks, grants: &mut Grants)
     requires may { MayAllot table.now.ports router marks.old grants.old }
     requires alone { (k : ℕ) × (slice_index marks.old.waiting router ≡ 2 ^ k) }

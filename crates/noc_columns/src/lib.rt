@@ -37,6 +37,7 @@ mod sources;
 mod starts;
 mod supply;
 mod switch;
+mod walk;
 mod words;
 
 pub use allocation::allocate;

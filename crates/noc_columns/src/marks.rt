@@ -2,9 +2,9 @@
 
 ghost use Rattle.std.specs.Prelude.{◌≡◌, ◌<◌, ◌^◌, ℕ, nat_eq, not, bit_or, slice_index, if◌then◌else◌};
 ghost use Rattle.noc_columns.specs.Wants.{asks_of};
-ghost use Rattle.noc_columns.specs.Prelude.{CHANNELS, ROUTERS, has_bit};
+ghost use Rattle.noc_columns.specs.Prelude.{CHANNELS, ROUTERS, has_bit, one_if};
 
-use crate::sets::{CHANNELS, where_some};
+use crate::sets::CHANNELS;
 use crate::words::{ROUTERS, with_router};
 
 /// How many words the requests of a router take.
@@ -50,7 +50,7 @@ impl Marks {
         ensures sets { self.new.sets ≡ self.old.sets }
         ensures turns { self.new.turns ≡ self.old.turns }
     {
-        let asks = where_some(waiting, wanted & idle);
+        let asks = asks(waiting, wanted, idle);
         self.asking = with_router(self.asking, router, asks != 0);
         self.waiting[router] = waiting;
         self.wanted[router] = wanted;
@@ -71,8 +71,42 @@ impl Marks {
         ensures turns { self.new.turns ≡ self.old.turns }
     {
         let idle = self.idle[router] | channels;
-        let asks = where_some(self.waiting[router], self.wanted[router] & idle);
-        self.asking = with_router(self.asking, router, asks != 0);
+        let asks = asks(self.waiting[router], self.wanted[router], idle);
+        self.asking = self.asking | asks << router as u32;
         self.idle[router] = idle;
     }
+
+    /// An input channel of a router waits too, and these output channels are wanted too.
+    #[inline(always)]
+    pub fn add_waiting(&mut self, router: usize, channel: usize, wanted: u64)
+        requires router { router < ROUTERS }
+        requires channel { channel < CHANNELS }
+        ensures waiting { (r : ℕ) → slice_index self.new.waiting r
+            ≡ (if nat_eq r router
+            then bit_or (slice_index self.old.waiting r) (2 ^ channel)
+            else slice_index self.old.waiting r) }
+        ensures wanted { (r : ℕ) → slice_index self.new.wanted r
+            ≡ (if nat_eq r router
+            then bit_or (slice_index self.old.wanted r) wanted
+            else slice_index self.old.wanted r) }
+        ensures idle { self.new.idle ≡ self.old.idle }
+        ensures sets { self.new.sets ≡ self.old.sets }
+        ensures turns { self.new.turns ≡ self.old.turns }
+    {
+        let waiting = self.waiting[router] | 1 << channel as u32;
+        let wanted = self.wanted[router] | wanted;
+        let asks = asks(waiting, wanted, self.idle[router]);
+        self.asking = self.asking | asks << router as u32;
+        self.waiting[router] = waiting;
+        self.wanted[router] = wanted;
+    }
+}
+
+// 1 where a channel waits and an idle output channel is wanted, and else 0. (Both are looked at,
+// so that the processor has nothing to guess.)
+#[inline(always)]
+fn asks(waiting: u64, wanted: u64, idle: u64) -> u64
+    ensures { result ≡ one_if (not (nat_eq (asks_of waiting wanted idle) 0)) }
+{
+    u64::from(waiting != 0) & u64::from(wanted & idle != 0)
 }

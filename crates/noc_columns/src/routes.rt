@@ -1,6 +1,6 @@
 //! Heads are routed in the routers of a block.
 
-ghost use Rattle.std.specs.Prelude.{◌≡◌, ◌≢◌, ◌<◌, ◌+◌, ◌*◌, ◌&&◌, ℕ, true, nat_eq, length, slice_index, if◌then◌else◌};
+ghost use Rattle.std.specs.Prelude.{◌≡◌, ◌≢◌, ◌<◌, ◌+◌, ◌*◌, ◌/◌, ◌%◌, ◌&&◌, ℕ, true, nat_eq, length, slice_index, if◌then◌else◌};
 ghost use Rattle.noc_topo.specs.Shape.{nodes, ports};
 ghost use Rattle.noc_columns.specs.Heads.{HasRoutedAll, MayRouteAll, headed, heading_at, packet_in};
 ghost use Rattle.noc_columns.specs.Marks.{ChangesWaiting};
@@ -10,7 +10,8 @@ ghost use Rattle.noc_columns.specs.Prelude.{has_bit, word};
 use crate::channel_table::ChannelTable;
 use crate::header::Header;
 use crate::marks::Marks;
-use crate::sets::{CHANNELS, but_lowest, least};
+use crate::sets::CHANNELS;
+use crate::walk::step;
 use crate::words::{ROUTERS, Words, used_words};
 use noc_packet::{ChannelSet, INDICES};
 use noc_route::Relation;
@@ -48,45 +49,14 @@ pub fn route(
         first: guide.first,
     };
     let links = &guide.table.ports.links;
+    let mut left = *heads;
     let mut rest = used_words((links.width + 1) * links.vcs, heads);
     while rest != 0 {
-        let index = least(rest);
-        let channel = own.table.channel_at(index);
-        route_routers(&own, channel, heads[index], packets, marks);
-        rest = but_lowest(rest);
-    }
-}
-
-// The heads in one channel of these routers are routed.
-#[inline(always)]
-fn route_routers(
-    guide: &Guide<'_>,
-    channel: usize,
-    routers: u64,
-    packets: &[[u32; CHANNELS]; ROUTERS],
-    marks: &mut Marks,
-)
-    requires ports { IsOfPorts guide.now.table.now.ports guide.now.relation.now }
-    requires headers { AreRoutable guide.now.relation.now guide.now.headers.now }
-    requires channel { channel < (guide.now.table.now.ports.links.width + 1)
-        * guide.now.table.now.ports.links.vcs }
-    requires heads { (r : ℕ) → r < ROUTERS → has_bit routers r ≡ true
-        → (guide.now.first + r < nodes guide.now.relation.now.grid)
-        × (packet_in packets.now r channel < length guide.now.headers.now) }
-    ensures routed { (r : ℕ) → r < ROUTERS → heading_at marks.new r
-        ≡ (if has_bit routers r
-        then headed channel
-        (sets_by guide.now.relation.now guide.now.headers.now (guide.now.first + r) channel
-        (packet_in packets.now r channel)) (heading_at marks.old r)
-        else heading_at marks.old r) }
-    ensures kept { ChangesWaiting marks.old marks.new }
-{
-    let mut rest = routers;
-    while rest != 0 {
-        let router = least(rest);
-        let packet = packets[router][channel] as usize;
-        route_head(guide, channel, router, packet, marks);
-        rest = but_lowest(rest);
+        let next = step(&mut left, rest);
+        let channel = own.table.channel_at(next.index);
+        let packet = packets[next.router][channel] as usize;
+        route_head(&own, channel, next.router, packet, marks);
+        rest = next.rest;
     }
 }
 
@@ -107,14 +77,9 @@ fn route_head(guide: &Guide<'_>, channel: usize, router: usize, packet: usize, m
 {
     let header = guide.headers[packet];
     let node = guide.first as usize + router;
-    let port = guide.table.port(channel);
-    let vc = guide.table.vc(channel);
-    let set = set_for(guide.relation, header, node, port, vc);
+    let set = set_for(guide.relation, header, node, channel);
     note(&mut marks.sets[router], channel, set);
-    let waiting = marks.waiting[router] | 1 << channel as u32;
-    let wanted = marks.wanted[router] | set;
-    let idle = marks.idle[router];
-    marks.put(router, waiting, wanted, idle);
+    marks.add_waiting(router, channel, set);
 }
 
 // The set of a channel is written.
@@ -127,18 +92,17 @@ fn note(sets: &mut [u64; CHANNELS], channel: usize, set: u64)
     sets[channel] = set;
 }
 
-// The channels that a packet with this header may take which came to a node by this port and
-// virtual channel.
-fn set_for(relation: &Relation, header: Header, node: usize, port: usize, vc: usize) -> u64
+// The channels that a packet with this header may take which came to a node by this input channel.
+fn set_for(relation: &Relation, header: Header, node: usize, channel: usize) -> u64
     requires node { node < nodes relation.now.grid }
     requires header { IsRoutable relation.now header }
-    requires port { port < ports relation.now.grid }
-    requires vc { vc < relation.now.vcs }
-    ensures { result ≡ set_by relation.now header node port vc }
+    requires channel { channel < ports relation.now.grid * relation.now.vcs }
+    ensures { result ≡ set_by relation.now header node (channel / relation.now.vcs)
+        (channel % relation.now.vcs) }
 {
     let class = usize::from(header.class);
     let destination = usize::from(header.destination);
-    bits_of(relation.permitted(class, node, port, vc, destination))
+    bits_of(relation.permitted_from(class, node, channel, destination))
 }
 
 // A set of channels, as a number. (Nothing depends on how many there are, so the processor need not

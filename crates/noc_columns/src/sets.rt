@@ -48,14 +48,6 @@ pub fn but_lowest(set: u64) -> u64
     set & (set - 1)
 }
 
-/// A word where a set has a member, and else 0.
-#[inline(always)]
-pub(crate) fn where_some(set: u64, word: u64) -> u64
-    ensures { result ≡ (if nat_eq set 0 then 0 else word) }
-{
-    if set == 0 { 0 } else { word }
-}
-
 /// The first of some requests, from the pointer of an arbiter on, and around.
 #[inline(always)]
 pub(crate) fn first_in_turn(requests: u64, after: u64) -> u64

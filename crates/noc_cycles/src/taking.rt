@@ -98,7 +98,7 @@ fn count_credits(pattern: &Pattern, block: &mut Block, work: &mut Work)
         &mut block.outputs,
         &mut work.returned,
     );
-    free_links(pattern, home, &work.returned.home, &mut block.marks);
+    free_links(pattern, home, &mut work.returned.home, &mut block.marks);
     let grants = &block.grants;
     look_up(
         &pattern.frame,
@@ -112,12 +112,12 @@ fn count_credits(pattern: &Pattern, block: &mut Block, work: &mut Work)
 
 // Link channels are idle again, if there are some in these routers.
 #[inline(always)]
-fn free_links(pattern: &Pattern, routers: u64, home: &Words, marks: &mut Marks)
+fn free_links(pattern: &Pattern, routers: u64, home: &mut Words, marks: &mut Marks)
     requires { routers ≡ 0 → (r : ℕ) → r < ROUTERS
-        → set_of (links_of pattern.now.table.ports.links) r home.now ≡ 0 }
+        → set_of (links_of pattern.now.table.ports.links) r home.old ≡ 0 }
     ensures idle { (r : ℕ) → r < ROUTERS → slice_index marks.new.idle r
         ≡ bit_or (slice_index marks.old.idle r)
-        (set_of (links_of pattern.now.table.ports.links) r home.now) }
+        (set_of (links_of pattern.now.table.ports.links) r home.old) }
     ensures kept { ChangesIdle marks.old marks.new }
 {
     if routers != 0 {

@@ -1,6 +1,6 @@
 //! The routing relation.
 
-ghost use Rattle.std.specs.Prelude.{◌≡◌, ◌<◌, All, MatchResult, IfOk, None};
+ghost use Rattle.std.specs.Prelude.{◌≡◌, ◌<◌, ◌*◌, ◌/◌, ◌%◌, All, MatchResult, IfOk, None};
 ghost use Rattle.noc_topo.specs.Shape.{nodes, ports};
 ghost use Rattle.noc_route.specs.Built.{routing_of, IsRelationOfRule};
 ghost use Rattle.noc_route.specs.Columns.{table_of};
@@ -90,7 +90,28 @@ impl Relation {
         ensures value { result ≡ set_at self.now class router in_port in_vc dst }
         ensures built { IsRelation self.now }
     {
-        let column = self.columns.sizes.column(class, router, in_port, in_vc);
+        let input = self.columns.sizes.index(in_port, in_vc);
+        self.permitted_from(class, router, input, dst)
+    }
+
+    /// The same for a packet that came by the input channel with this index, which is
+    /// `in_port * vcs + in_vc`.
+    pub fn permitted_from(
+        &self,
+        class: usize,
+        router: usize,
+        input: usize,
+        dst: usize,
+    ) -> ChannelSet
+        requires class { class < self.now.classes }
+        requires router { router < nodes self.now.grid }
+        requires input { input < ports self.now.grid * self.now.vcs }
+        requires dst { dst < nodes self.now.grid }
+        ensures value { result ≡ set_at self.now class router (input / self.now.vcs)
+            (input % self.now.vcs) dst }
+        ensures built { IsRelation self.now }
+    {
+        let column = self.columns.sizes.column(class, router, input);
         self.columns.set(column, dst)
     }
 

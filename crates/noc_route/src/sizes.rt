@@ -115,18 +115,17 @@ impl Sizes {
         self.node_count * self.classes * self.width()
     }
 
-    // The number of a column.
-    pub(crate) fn column(&self, class: usize, router: usize, in_port: usize, in_vc: usize) -> usize
+    // The number of the column of an input channel.
+    pub(crate) fn column(&self, class: usize, router: usize, input: usize) -> usize
         requires class { class < self.now.classes }
         requires router { router < nodes self.now.shape }
-        requires in_port { in_port < ports self.now.shape }
-        requires in_vc { in_vc < self.now.vcs }
+        requires input { input < width self.now.shape self.now.vcs }
         ensures value { result ≡ (router * self.now.classes + class) * width self.now.shape
-            self.now.vcs + (in_port * self.now.vcs + in_vc) }
+            self.now.vcs + input }
         ensures within { result < nodes self.now.shape * self.now.classes * width self.now.shape
             self.now.vcs }
     {
-        (router * self.classes + class) * self.width() + self.index(in_port, in_vc)
+        (router * self.classes + class) * self.width() + input
     }
 
     // The index in the table of an input channel of a page.

@@ -8,4 +8,4 @@ pub returns-clause-within : goal.returns-clause-within
 returns-clause-within c =
     let f = c.args.self.now in
     let pair = flat-below c.args.router (nodes f.shape) c.args.class f.classes c.requires.router c.requires.class in
-    rw c.width.ensures.value (flat-below (c.args.router * f.classes + c.args.class) (nodes f.shape * f.classes) c.index.result (width f.shape f.vcs) pair c.index.ensures.within)
+    rw c.width.ensures.value (flat-below (c.args.router * f.classes + c.args.class) (nodes f.shape * f.classes) c.args.input (width f.shape f.vcs) pair c.requires.input)
