@@ -14,6 +14,7 @@ use Rattle.noc_sets.proofs.MemberLemmas.{eq-turned, least_is, or-false, or-left,
 use Rattle.noc_columns.specs.Allotted.{Allotment, HasAllotted, ShowsOwned, allotted_after, allotted_before, allotted_marks, given_to}
 use Rattle.noc_columns.specs.Grants.{first_of}
 use Rattle.noc_columns.specs.Words.{set_below}
+use Rattle.noc_columns.proofs.LoopLemmas.{and-false}
 use Rattle.noc_columns.proofs.AllotmentLemmas.{fits-below}
 use Rattle.noc_columns.proofs.AskLemmas.{asks-idle, asks-wait, in-word}
 use Rattle.noc_columns.proofs.ChannelLemmas.{part, port-below, whole}
@@ -120,10 +121,6 @@ module _ (size vcs : ℕ) (a b : Allotment) (some : 0 < vcs) (few : size ≤ 64)
         either_members (m.to_port q) (set_below size (λ j. has_bit b.granted j && nat_eq (b.out_port j) q)) k
         ∙ ap (λ x. has_bit (m.to_port q) k || x) (sent-members q k ∙ ap (λ g. nat_lt k size && (g && nat_eq (b.out_port k) q)) ungiven ∙ and-false (nat_lt k size))
         ∙ or-false (has_bit (m.to_port q) k)
-      where
-        and-false : (x : Bool) → (x && false) ≡ false
-        and-false true = refl
-        and-false false = refl
 
     pub sent-some : (q k : ℕ) → k < size → has_bit b.granted k ≡ true → has_bit ((allotted_marks size vcs b m).to_port q) k ≡ (has_bit (m.to_port q) k || nat_eq (b.out_port k) q)
     sent-some q k l given =

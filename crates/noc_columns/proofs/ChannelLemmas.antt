@@ -1,11 +1,12 @@
 -- The channels of a router by port.
-use Rattle.std.proofs.Common.{◌≡◌, ◌≢◌, ◌⊎◌, ℕ, ◌+◌, ◌-◌, ◌*◌, ◌/◌, ◌%◌, ◌<◌, ◌≤◌, Bool, true, false, arith, ap, ap₂, sym, ◌∙◌, refl, inl, inr}
+use Rattle.std.proofs.Common.{◌≡◌, ◌≢◌, ◌⊎◌, ℕ, ◌+◌, ◌-◌, ◌*◌, ◌/◌, ◌%◌, ◌<◌, ◌≤◌, false, arith, ap, ap₂, sym, ◌∙◌, inl, inr}
 use Rattle.std.specs.Prelude.{◌&&◌, nat_eq}
 use Rattle.std.proofs.lemmas.Bool.{cases_eq, cases_lt, eq-eqb, ne_eqb}
 use Rattle.std.proofs.lemmas.Nat.{div-mul-add, mod-mul-add, mod_below}
 use Rattle.noc_columns.specs.Picks.{channels_of, port_of}
 use Rattle.noc_columns.specs.Words.{AreApart}
 use Rattle.noc_columns.specs.declared.ports.RouterPorts.{RouterPorts}
+use Rattle.noc_columns.proofs.LoopLemmas.{and-false}
 use Rattle.noc_columns.proofs.PickLemmas.{apart}
 use Rattle.noc_columns.proofs.PortLemmas.{link-before, link-index, local-place}
 
@@ -44,13 +45,9 @@ module _ (ports vcs : ℕ) (some : 0 < vcs) where
           ∙ sym (ap₂ (λ a b. a && b) (eq-eqb q (i / vcs) (sym (ap (λ x. x / vcs) e ∙ div-mul-add q vcs v l))) (eq-eqb v (i % vcs) (sym (ap (λ x. x % vcs) e ∙ mod-mul-add q vcs v l))))
       at (inr o) = ne_eqb i (q * vcs + v) o ∙ sym (by (cases_eq q (i / vcs)) (cases_eq v (i % vcs)))
         where
-          and-no : (b : Bool) → (b && false) ≡ false
-          and-no true = refl
-          and-no false = refl
-
           by : (q ≡ i / vcs) ⊎ (q ≢ i / vcs) → (v ≡ i % vcs) ⊎ (v ≢ i % vcs) → (nat_eq q (i / vcs) && nat_eq v (i % vcs)) ≡ false
           by (inl a) (inl b) = absurd (o (sym (whole i) ∙ ap₂ (λ x y. x * vcs + y) (sym a) (sym b)))
-          by (inl a) (inr b) = ap (λ x. nat_eq q (i / vcs) && x) (ne_eqb v (i % vcs) b) ∙ and-no (nat_eq q (i / vcs))
+          by (inl a) (inr b) = ap (λ x. nat_eq q (i / vcs) && x) (ne_eqb v (i % vcs) b) ∙ and-false (nat_eq q (i / vcs))
           by (inr a) b = ap (λ x. x && nat_eq v (i % vcs)) (ne_eqb q (i / vcs) a)
 
 -- ---- no two have the same word

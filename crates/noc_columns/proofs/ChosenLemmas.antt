@@ -1,5 +1,5 @@
 -- What allocation and routes make of a router of a block is what a router chooses.
-use Rattle.std.proofs.Common.{◌≡◌, ◌≢◌, ℕ, ◌+◌, ◌*◌, ◌/◌, ◌^◌, ◌<◌, ◌≤◌, Bool, true, false, ap, ◌∙◌, refl, bit_or}
+use Rattle.std.proofs.Common.{◌≡◌, ◌≢◌, ℕ, ◌+◌, ◌*◌, ◌/◌, ◌^◌, ◌<◌, ◌≤◌, Bool, false, ap, ◌∙◌, refl, bit_or}
 use Rattle.std.specs.Prelude.{◌&&◌, nat_eq, nat_lt, if◌then◌else◌}
 use Rattle.noc_packet.specs.Set.{has_bit}
 use Rattle.noc_packet.proofs.SetLemmas.{has_bit-zero, zero_from_none}
@@ -12,6 +12,7 @@ use Rattle.noc_sets.proofs.MemberLemmas.{or-zero}
 use Rattle.noc_columns.specs.Allotted.{Allotment, HasAllotted, allotted_after, allotted_before, allotted_marks, given_to, routed_after}
 use Rattle.noc_columns.specs.Wants.{asks_of}
 use Rattle.noc_columns.specs.Words.{set_below}
+use Rattle.noc_columns.proofs.LoopLemmas.{and-false}
 use Rattle.noc_columns.proofs.AllocatedLemmas.{is-allocated}
 use Rattle.noc_columns.proofs.SetLemmas.{below-members}
 
@@ -21,11 +22,7 @@ module _ (size vcs : ℕ) (a : Allotment) (c : Column) (m : RouterMarks) (clear 
   no-grant k = ap (λ w. has_bit w k) clear ∙ has_bit-zero k
 
   none-of : (test : ℕ → Bool) → set_below size (λ k. has_bit a.granted k && test k) ≡ 0
-  none-of test = zero_from_none _ (λ k. below-members size (λ j. has_bit a.granted j && test j) k ∙ ap (λ g. nat_lt k size && (g && test k)) (no-grant k) ∙ and-no (nat_lt k size))
-    where
-      and-no : (b : Bool) → (b && false) ≡ false
-      and-no true = refl
-      and-no false = refl
+  none-of test = zero_from_none _ (λ k. below-members size (λ j. has_bit a.granted j && test j) k ∙ ap (λ g. nat_lt k size && (g && test k)) (no-grant k) ∙ and-false (nat_lt k size))
 
   taken-same : (k : ℕ) → (if has_bit a.granted k then 2 ^ (a.out_port k * vcs + a.out_vc k) else m.taken k) ≡ m.taken k
   taken-same k = ap (λ g. if g then 2 ^ (a.out_port k * vcs + a.out_vc k) else m.taken k) (no-grant k)

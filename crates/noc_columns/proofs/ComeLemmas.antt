@@ -7,7 +7,7 @@ use Rattle.noc_packet.proofs.SetLemmas.{both_members, either_members, has_bit-ze
 use Rattle.noc_sets.specs.Sets.{less, lowest}
 use Rattle.noc_sets.proofs.MemberLemmas.{or-false}
 use Rattle.noc_columns.specs.Words.{AreApart, Numbering, set_of, word}
-use Rattle.noc_columns.proofs.LoopLemmas.{and-true, but_lowest-is, left-members}
+use Rattle.noc_columns.proofs.LoopLemmas.{and-true, but_lowest-is, left-members, none-left}
 use Rattle.noc_columns.proofs.MarkLemmas.{entry-put}
 use Rattle.noc_columns.proofs.SetLemmas.{below-members}
 use Rattle.noc_columns.proofs.SupplyLemmas.{member-is}
@@ -89,6 +89,12 @@ left-some count words left rest are i e = at (cases_eq (word i left) 0)
     at (inl none) = absurd (true≢false (sym e ∙ are.some i (are.few i e) ∙ ap not (eq-eqb (word i left) 0 none)))
     at (inr more) = omega (arith, more)
 
+no-word : (w : ℕ) → not (nat_eq w 0) ≡ false → w ≡ 0
+no-word w f = elim (cases_eq w 0) [
+  | inl z ↦ z
+  | inr more ↦ absurd (false≢true (sym f ∙ ap not (ne_eqb w 0 more)))
+]
+
 pub left-step : (count : ℕ) (words left : List ℕ) (rest : ℕ) (left' : List ℕ) (rest' i s : ℕ) → AreLeft count words left rest
     → ((k r : ℕ) → has_bit (word k left') r ≡ (has_bit (word k left) r && not (nat_eq k i && nat_eq r s)))
     → ((k : ℕ) → has_bit rest' k ≡ (has_bit rest k && not (nat_eq (word k left') 0)))
@@ -105,23 +111,13 @@ left-step count words left rest left' rest' i s are next is = record {
         let none = no-word (word k left) (sym (are.some k l) ∙ e) in
         let gone : word k left' ≡ 0 = same_set _ _ (λ r. next k r ∙ ap (λ w. has_bit w r && not (nat_eq k i && nat_eq r s)) none ∙ ap (λ b. b && not (nat_eq k i && nat_eq r s)) (has_bit-zero r) ∙ sym (has_bit-zero r)) in
         ap (λ b. b && not (nat_eq (word k left') 0)) e ∙ sym (ap not (eq-eqb (word k left') 0 gone))
-      where
-        no-word : (w : ℕ) → not (nat_eq w 0) ≡ false → w ≡ 0
-        no-word w f = elim (cases_eq w 0) [
-          | inl z ↦ z
-          | inr more ↦ absurd (false≢true (sym f ∙ ap not (ne_eqb w 0 more)))
-        ]
 
 -- ---- which channels of a router it has come to
 abbrev pub come : Numbering → ℕ → List ℕ → List ℕ → ℕ → Bool
 come n r words left k = has_bit (set_of n r words) k && not (has_bit (set_of n r left) k)
 
 pub come-none : (n : Numbering) (r : ℕ) (words : List ℕ) (k : ℕ) → come n r words words k ≡ false
-come-none n r words k = at (has_bit (set_of n r words) k)
-  where
-    at : (b : Bool) → (b && not b) ≡ false
-    at true = refl
-    at false = refl
+come-none n r words k = none-left (set_of n r words) k
 
 past-all : (n : Numbering) (r : ℕ) (words : List ℕ) (k : ℕ) → n.size ≤ k → has_bit (set_of n r words) k ≡ false
 past-all n r words k m = below-members n.size (λ j. has_bit (word (n.index j) words) r) k ∙ ap (λ b. b && has_bit (word (n.index k) words) r) (le-ltb k n.size m)
@@ -173,10 +169,7 @@ module _ (n : Numbering) (apart : AreApart n) (r : ℕ) (words left : List ℕ) 
   come-all count rest are none within k = ap (λ b. has_bit (set_of n r words) k && not b) gone ∙ and-true (has_bit (set_of n r words) k)
     where
       empty : (i : ℕ) → i < count → word i left ≡ 0
-      empty i l = elim (cases_eq (word i left) 0) [
-        | inl z ↦ z
-        | inr more ↦ absurd (false≢true (sym (has_bit-zero i) ∙ sym (ap (λ w. has_bit w i) none) ∙ are.some i l ∙ ap not (ne_eqb (word i left) 0 more)))
-      ]
+      empty i l = no-word (word i left) (sym (are.some i l) ∙ ap (λ w. has_bit w i) none ∙ has_bit-zero i)
 
       gone : has_bit (set_of n r left) k ≡ false
       gone = elim (cases_lt k n.size) [

@@ -12,6 +12,7 @@ use Rattle.noc_columns.specs.Supply.{digits_by, number_in}
 use Rattle.noc_columns.specs.Words.{AreApart, Numbering, set_of, word}
 use Rattle.noc_columns.specs.declared.given.Grants.{Grants}
 use Rattle.noc_columns.specs.declared.supply.Digits.{Digits}
+use Rattle.noc_columns.proofs.LoopLemmas.{and-false}
 use Rattle.noc_columns.proofs.PastLemmas.{first-some}
 use Rattle.noc_columns.proofs.PortLemmas.{lowest-least}
 use Rattle.noc_columns.proofs.SupplyLemmas.{number-is}
@@ -77,7 +78,7 @@ module _ (n : Numbering) (vcs router : ℕ) (prev next : ℕ → Bool) (requests
     bits = λ r. (one r).granted ∙ at r (nat_eq r router) refl;
     numbers = λ o c l a b. elim (here o a) [
       | inl p ↦
-          let away : (nat_eq router router && has_bit bit c) ≡ false = ap (λ x. nat_eq router router && x) (apart o c p b) ∙ and-no (nat_eq router router) in
+          let away : (nat_eq router router && has_bit bit c) ≡ false = ap (λ x. nat_eq router router && x) (apart o c p b) ∙ and-false (nat_eq router router) in
           let was = are.numbers o c l p b in (
             (one router).port c l ∙ ap (λ x. if x then t / vcs else number_in (digits_by (set_of n router) now.sends.port) c) away ∙ was.0,
             (one router).vc c l ∙ ap (λ x. if x then t % vcs else number_in (digits_by (set_of n router) now.sends.vc) c) away ∙ was.1,
@@ -96,10 +97,6 @@ module _ (n : Numbering) (vcs router : ℕ) (prev next : ℕ → Bool) (requests
         );
   }
     where
-      and-no : (b : Bool) → (b && false) ≡ false
-      and-no true = refl
-      and-no false = refl
-
       at : (r : ℕ) (b : Bool) → nat_eq r router ≡ b
           → (if nat_eq r router then bit_or (set_of n r now.granted) bit else set_of n r now.granted)
           ≡ (if nat_eq r router then bit_or (set_of n r old.granted) (bit_or granted bit) else set_of n r old.granted)

@@ -8,6 +8,7 @@ use Rattle.noc_sets.specs.Column.{RouterMarks}
 use Rattle.noc_sets.specs.Routed.{HasRouted}
 use Rattle.noc_sets.proofs.MemberLemmas.{or-false, or-left, or-right, power-members, same-word}
 use Rattle.noc_columns.specs.Heads.{Heading, headed, headed_marks}
+use Rattle.noc_columns.proofs.LoopLemmas.{and-false}
 
 -- what routing changes of a router, part by part
 abbrev pub the-heading : ℕ → ℕ → (ℕ → ℕ) → Heading
@@ -82,10 +83,6 @@ module _ (test : ℕ → Bool) (set : ℕ → ℕ) (h : Heading) where
       → IsHeaded more set h (if b then headed n (set n) x else x)
   headed-next more n true x is are = headed-more more n x is are
   headed-next more n false x is are = headed-like more x (λ k. is k ∙ ap (λ b. test k || b) (and-false (nat_eq k n)) ∙ or-false (test k)) are
-    where
-      and-false : (b : Bool) → (b && false) ≡ false
-      and-false true = refl
-      and-false false = refl
 
 -- ---- the heads are a set of channels of a router
 module _ (heads : ℕ) (sets : ℕ → ℕ → ℕ) (packet : ℕ → ℕ) (h x : Heading) (are : IsHeaded (has_bit heads) (λ k. sets k (packet k)) h x) where

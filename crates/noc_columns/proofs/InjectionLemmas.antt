@@ -14,6 +14,7 @@ use Rattle.noc_columns.specs.Words.{Numbering, all_of, set_alike, set_below, set
 use Rattle.noc_columns.specs.declared.channels.Inputs.{Inputs}
 use Rattle.noc_columns.specs.declared.planes.Planes.{Planes}
 use Rattle.noc_columns.specs.declared.ports.Ports.{Ports}
+use Rattle.noc_columns.proofs.LoopLemmas.{and-false, and-true}
 use Rattle.noc_columns.proofs.PassLemmas.{some-same}
 use Rattle.noc_columns.proofs.PickLemmas.{below-some, chain-lowest, find-first, none-each, some-asks, some-each, union-members}
 use Rattle.noc_columns.proofs.PlaneLemmas.{any_term, leaves, likes, value-any, value-leaves, value-likes, value-wrong, wrong_term}
@@ -102,11 +103,7 @@ module _ (deep : Bool) (inputs : Inputs (List ℕ)) where
 -- all of them, or none
 pub alike-is : (n : Numbering) (r starts : ℕ) (b : Bool) → has_bit starts r ≡ b → set_alike n r starts ≡ (if b then all_of n else 0)
 alike-is n r starts true e = below-same n.size _ _ (λ k l. e)
-alike-is n r starts false e = same-word _ 0 (λ k. below-members n.size (λ c. has_bit starts r) k ∙ ap (λ b. nat_lt k n.size && b) e ∙ and-no (nat_lt k n.size) ∙ sym (has_bit-zero k))
-  where
-    and-no : (a : Bool) → (a && false) ≡ false
-    and-no true = refl
-    and-no false = refl
+alike-is n r starts false e = same-word _ 0 (λ k. below-members n.size (λ c. has_bit starts r) k ∙ ap (λ b. nat_lt k n.size && b) e ∙ and-false (nat_lt k n.size) ∙ sym (has_bit-zero k))
 
 pub begins-is : (n : Numbering) (r starts rest : ℕ) (b : Bool) → has_bit starts r ≡ b → less (set_alike n r starts) rest ≡ (if b then less (all_of n) rest else 0)
 begins-is n r starts rest true e = ap (λ a. less a rest) (alike-is n r starts true e)
@@ -135,14 +132,6 @@ tails-are n r last flits tails is = at (has_bit last r) refl
   where
     here : (c : ℕ) (b : Bool) → c < n.size → has_bit last r ≡ b → has_bit (word (n.index c) tails) r ≡ (has_bit (word (n.index c) flits) r && b)
     here c b l e = ap (λ w. has_bit w r) (is c l) ∙ both_members (word (n.index c) flits) last r ∙ ap (λ x. has_bit (word (n.index c) flits) r && x) e
-
-    and-true : (a : Bool) → (a && true) ≡ a
-    and-true true = refl
-    and-true false = refl
-
-    and-false : (a : Bool) → (a && false) ≡ false
-    and-false true = refl
-    and-false false = refl
 
     at : (b : Bool) → has_bit last r ≡ b → set_of n r tails ≡ (if b then set_of n r flits else 0)
     at true e = below-same n.size _ _ (λ k l. here k true l e ∙ and-true (has_bit (word (n.index k) flits) r))

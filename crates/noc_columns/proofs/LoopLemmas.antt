@@ -71,11 +71,7 @@ all-done set rest k none = ap (λ n. has_bit set k && not (has_bit n k)) none �
 
 -- the least of those that are left is not done
 pub not-done : (set rest t : ℕ) → has_bit rest t ≡ true → (has_bit set t && not (has_bit rest t)) ≡ false
-not-done set rest t e = ap (λ b. has_bit set t && not b) e ∙ none (has_bit set t)
-  where
-    none : (b : Bool) → (b && false) ≡ false
-    none true = refl
-    none false = refl
+not-done set rest t e = ap (λ b. has_bit set t && not b) e ∙ and-false (has_bit set t)
 
 -- one that is no more left, but for the least
 pub was-left : (rest t k : ℕ) → IsLeast (has_bit rest) (Some t) → k ≢ t → has_bit (less rest (lowest rest)) k ≡ false → has_bit rest k ≡ false

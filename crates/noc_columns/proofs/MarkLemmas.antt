@@ -9,6 +9,7 @@ use Rattle.noc_sets.proofs.MemberLemmas.{or-false, power-members}
 use Rattle.noc_columns.specs.Marks.{ChangesIdle}
 use Rattle.noc_columns.specs.Wants.{asks_of}
 use Rattle.noc_columns.specs.declared.marks.Marks.{Marks}
+use Rattle.noc_columns.proofs.LoopLemmas.{and-false, and-true}
 use Rattle.noc_columns.proofs.PlaceLemmas.{one-router}
 
 -- an entry that is written
@@ -68,16 +69,8 @@ pub asked-more : (asking router : ℕ) (a : Bool) → (has_bit asking router ≡
 asked-more asking router a keeps few r = either_members asking (one_if a * 2 ^ router % 2 ^ 64) r ∙ ap (λ b. has_bit asking r || b) (alone a) ∙ at (cases_eq r router)
   where
     alone : (b : Bool) → has_bit (one_if b * 2 ^ router % 2 ^ 64) r ≡ (nat_eq r router && b)
-    alone true = ap (λ w. has_bit w r) (one-router router few) ∙ power-members router r ∙ sym (and-yes (nat_eq r router))
-      where
-        and-yes : (b : Bool) → (b && true) ≡ b
-        and-yes true = refl
-        and-yes false = refl
-    alone false = (let none : 0 * 2 ^ router % 2 ^ 64 ≡ 0 = omega arith in ap (λ w. has_bit w r) none) ∙ has_bit-zero r ∙ sym (and-no (nat_eq r router))
-      where
-        and-no : (b : Bool) → (b && false) ≡ false
-        and-no true = refl
-        and-no false = refl
+    alone true = ap (λ w. has_bit w r) (one-router router few) ∙ power-members router r ∙ sym (and-true (nat_eq r router))
+    alone false = (let none : 0 * 2 ^ router % 2 ^ 64 ≡ 0 = omega arith in ap (λ w. has_bit w r) none) ∙ has_bit-zero r ∙ sym (and-false (nat_eq r router))
 
     joined : (b : Bool) → (b ≡ true → a ≡ true) → (b || a) ≡ a
     joined true f = sym (f refl)

@@ -20,9 +20,6 @@ use Rattle.noc_columns.proofs.PickLemmas.{find-first, some-each}
 low-members : (a k n : ℕ) → k < n → has_bit (a % 2 ^ n) k ≡ has_bit a k
 low-members a k n l = ap (λ m. nat_eq m 1) (sym (bit_at_cat_low (a / 2 ^ n) n (a % 2 ^ n) k l) ∙ ap (λ x. bit_at x k) (shr_split a n))
 
-or-no : (b : Bool) → (b || false) ≡ b
-or-no = or-false
-
 module _ (word distance r : ℕ) (fits : word < 2 ^ 64) (near : distance < 64) (few : r < 64) where
   down-is : has_bit (word / 2 ^ distance) r ≡ has_bit word (distance + r)
   down-is = down_members word distance r
@@ -36,7 +33,7 @@ module _ (word distance r : ℕ) (fits : word < 2 ^ 64) (near : distance < 64) (
       at : (r + distance < 64) ⊎ (64 ≤ r + distance) → (has_bit word (distance + r) || has_bit (up_by word back) r) ≡ has_bit word ((r + distance) % 64)
       at (inl l) =
           ap (λ x. has_bit word (distance + r) || x) (up_none word back r (omega (arith, e, near, l)))
-          ∙ or-no (has_bit word (distance + r))
+          ∙ or-false (has_bit word (distance + r))
           ∙ ap (has_bit word) (let f : distance + r ≡ (r + distance) % 64 = omega (arith, l) in f)
       at (inr l) =
           ap₂ (λ x y. x || y) (has_bit-above word 64 (distance + r) fits (omega (arith, l)))

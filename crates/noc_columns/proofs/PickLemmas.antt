@@ -10,6 +10,7 @@ use Rattle.noc_sets.specs.Unions.{some_below, union_from}
 use Rattle.noc_sets.proofs.MemberLemmas.{less_members, lowest_members, same-word, zero_members}
 use Rattle.noc_columns.specs.Picks.{turn_word}
 use Rattle.noc_columns.specs.Words.{Numbering, set_below, set_of, word}
+use Rattle.noc_columns.proofs.LoopLemmas.{and-false, and-true}
 use Rattle.noc_columns.proofs.PassLemmas.{some-same}
 use Rattle.noc_columns.proofs.SetLemmas.{below-both, below-members, below-same}
 
@@ -21,10 +22,6 @@ or-both false b e = (refl, e)
 or-yes : (a : Bool) → (a || true) ≡ true
 or-yes true = refl
 or-yes false = refl
-
-and-yes : (a : Bool) → (a && true) ≡ a
-and-yes true = refl
-and-yes false = refl
 
 pub none-each : (n : ℕ) (test : ℕ → Bool) → some_below n test ≡ false → (k : ℕ) → k < n → test k ≡ false
 none-each zero test e k l = absurd (omega arith)
@@ -69,11 +66,7 @@ chain-lowest n test = at (find-first n test)
         ∙ same-word (lowest 0) 0 (λ k. zero_members k ∙ sym (has_bit-zero k)))
       where
         nothing : set_below n (λ c. false) ≡ 0
-        nothing = same-word _ 0 (λ k. below-members n (λ c. false) k ∙ and-no (nat_lt k n) ∙ sym (has_bit-zero k))
-          where
-            and-no : (a : Bool) → (a && false) ≡ false
-            and-no true = refl
-            and-no false = refl
+        nothing = same-word _ 0 (λ k. below-members n (λ c. false) k ∙ and-false (nat_lt k n) ∙ sym (has_bit-zero k))
     at (inr found) = same-word _ _ (λ k. below-members n _ k ∙ by k (cases_lt k t) (cases_eq k t) ∙ sym (lowest_members (set_below n test) t k least))
       where
         t : ℕ
@@ -82,31 +75,22 @@ chain-lowest n test = at (find-first n test)
         least : IsLeast (has_bit (set_below n test)) (Some t)
         least = (
           below-members n test t ∙ ap₂ (λ a b. a && b) (lt-ltb t n found.1) found.2,
-          λ k l. below-members n test k ∙ ap (λ b. nat_lt k n && b) (none-each t test found.3 k l) ∙ and-no (nat_lt k n),
+          λ k l. below-members n test k ∙ ap (λ b. nat_lt k n && b) (none-each t test found.3 k l) ∙ and-false (nat_lt k n),
         )
-          where
-            and-no : (a : Bool) → (a && false) ≡ false
-            and-no true = refl
-            and-no false = refl
 
-        and-no : (a b : Bool) → (a && (b && false)) ≡ false
-        and-no true true = refl
-        and-no true false = refl
-        and-no false b = refl
-
-        and-none : (a : Bool) → (a && false) ≡ false
-        and-none true = refl
-        and-none false = refl
+        both-no : (a b : Bool) → (a && (b && false)) ≡ false
+        both-no true b = and-false b
+        both-no false b = refl
 
         by : (k : ℕ) → (k < t) ⊎ (t ≤ k) → (k ≡ t) ⊎ (k ≢ t) → (nat_lt k n && (test k && not (some_below k test))) ≡ nat_eq k t
-        by k (inl l) _ = ap (λ b. nat_lt k n && (b && not (some_below k test))) (none-each t test found.3 k l) ∙ and-none (nat_lt k n) ∙ sym (ne_eqb k t (omega (arith, l)))
+        by k (inl l) _ = ap (λ b. nat_lt k n && (b && not (some_below k test))) (none-each t test found.3 k l) ∙ and-false (nat_lt k n) ∙ sym (ne_eqb k t (omega (arith, l)))
         by k (inr l) (inl same) =
             ap (λ j. nat_lt j n && (test j && not (some_below j test))) same
             ∙ ap₂ (λ a b. a && b) (lt-ltb t n found.1) (ap₂ (λ a b. a && not b) found.2 found.3)
             ∙ sym (eq-eqb k t same)
         by k (inr l) (inr other) =
             ap (λ b. nat_lt k n && (test k && not b)) (some-each k test t (omega (arith, l, other)) found.2)
-            ∙ and-no (nat_lt k n) (test k)
+            ∙ both-no (nat_lt k n) (test k)
             ∙ sym (ne_eqb k t other)
 
 pub below-some : (n : ℕ) (test : ℕ → Bool) → nat_eq (set_below n test) 0 ≡ not (some_below n test)
@@ -135,7 +119,7 @@ turn-below n can ahead first is = at first is
     at : (b : Bool) → b ≡ some_below n (λ c. can c && ahead c) → set_below n (λ c. can c && (ahead c || not b)) ≡ in_turn (set_below n can) (set_below n ahead)
     at true e = below-same n _ (λ c. can c && ahead c) (λ k l. ap (λ x. can k && x) (or-none (ahead k))) ∙ below-both n can ahead
         ∙ sym (ap (λ b. if b then set_below n can else bit_and (set_below n can) (set_below n ahead)) (some ∙ ap not (sym e)))
-    at false e = below-same n _ can (λ k l. ap (λ x. can k && x) (or-yes (ahead k)) ∙ and-yes (can k))
+    at false e = below-same n _ can (λ k l. ap (λ x. can k && x) (or-yes (ahead k)) ∙ and-true (can k))
         ∙ sym (ap (λ b. if b then set_below n can else bit_and (set_below n can) (set_below n ahead)) (some ∙ ap not (sym e)))
 
 -- ---- in words
@@ -231,7 +215,7 @@ module _ (n : Numbering) (r first : ℕ) (ready ahead : List ℕ) (is : has_bit 
             some-each n.size test found.0 found.1 (unfold-test found.0 ∙ and-left-or (can-is found.0) (has_bit (word (n.index found.0) ahead) r) (not (has_bit first r)) found.2)
             ∙ sym (some-each n.size can-is found.0 found.1 (and-left (can-is found.0) (has_bit (word (n.index found.0) ahead) r) found.2))
       ]
-      all false e = some-same n.size test can-is (λ c l. unfold-test c ∙ ap (λ x. can-is c && (has_bit (word (n.index c) ahead) r || not x)) e ∙ ap (λ x. can-is c && x) (or-yes (has_bit (word (n.index c) ahead) r)) ∙ and-yes (can-is c))
+      all false e = some-same n.size test can-is (λ c l. unfold-test c ∙ ap (λ x. can-is c && (has_bit (word (n.index c) ahead) r || not x)) e ∙ ap (λ x. can-is c && x) (or-yes (has_bit (word (n.index c) ahead) r)) ∙ and-true (can-is c))
 
 -- whether there is one at all
 pub some-asks : (n : Numbering) (r : ℕ) (asks : List ℕ) → some_below n.size (λ c. has_bit (word (n.index c) asks) r) ≡ not (nat_eq (set_of n r asks) 0)

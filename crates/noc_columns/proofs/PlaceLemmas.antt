@@ -16,6 +16,7 @@ use Rattle.noc_columns.specs.Places.{AreFar, AreFarIn, IsNear, far_places, place
 use Rattle.noc_columns.specs.Words.{set_below, word}
 use Rattle.noc_columns.specs.declared.neighbours.Far.{Far}
 use Rattle.noc_columns.specs.declared.neighbours.Near.{Near}
+use Rattle.noc_columns.proofs.LoopLemmas.{and-false}
 use Rattle.noc_columns.proofs.NearLemmas.{neighbour-is}
 use Rattle.noc_columns.proofs.PickLemmas.{apart}
 use Rattle.noc_columns.proofs.SetLemmas.{below-members}
@@ -297,11 +298,7 @@ some-shift (suc n) t = ap (λ b. b || t (suc n)) (some-shift n t) ∙ or-assoc (
 
 -- one at the other end of its line stands in a ring
 no-round : (g : Grid) (s p c : ℕ) → g.wraps ≡ false → stands_in g s p true c ≡ false
-no-round g s p c flat = ap (λ w. nat_lt s (nodes g) && ((w && not (goes_straight g s p)) && nat_eq (lands_at g s p true / 64) c)) flat ∙ and-no (nat_lt s (nodes g))
-  where
-    and-no : (b : Bool) → (b && false) ≡ false
-    and-no true = refl
-    and-no false = refl
+no-round g s p c flat = ap (λ w. nat_lt s (nodes g) && ((w && not (goes_straight g s p)) && nat_eq (lands_at g s p true / 64) c)) flat ∙ and-false (nat_lt s (nodes g))
 
 pub near-or-far : (g : Grid) (vcs b k r : ℕ) (near : Near) (far : List Far) (sent : ℕ → ℕ) → k < vcs * local_port g → r < 64 → IsNear g vcs b near
     → comes_by (places_by near far b k) sent r

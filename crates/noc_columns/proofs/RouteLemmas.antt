@@ -1,10 +1,11 @@
 -- The members of a set, channel by channel, as a number.
-use Rattle.std.proofs.Common.{◌≡◌, ◌≢◌, ◌⊎◌, ℕ, ◌+◌, ◌^◌, ◌<◌, ◌≤◌, Bool, true, false, refl, ap, ap₂, arith, sym, ◌∙◌, inl, inr, bit_or}
+use Rattle.std.proofs.Common.{◌≡◌, ◌≢◌, ◌⊎◌, ℕ, ◌+◌, ◌^◌, ◌<◌, ◌≤◌, true, false, refl, ap, ap₂, arith, sym, ◌∙◌, inl, inr, bit_or}
 use Rattle.std.specs.Prelude.{◌&&◌, ◌||◌, nat_eq, nat_lt}
 use Rattle.std.proofs.lemmas.Bool.{cases_Bool, cases_eq, cases_lt, eq-eqb, le-ltb, lt-ltb, ne_eqb}
 use Rattle.noc_packet.specs.Set.{has_bit}
 use Rattle.noc_packet.proofs.SetLemmas.{either_members, has_bit-below, has_bit-zero}
 use Rattle.noc_sets.proofs.MemberLemmas.{or-false, same-word}
+use Rattle.noc_columns.proofs.LoopLemmas.{and-false}
 
 pub members-none : (set k : ℕ) → has_bit 0 k ≡ (nat_lt k 0 && has_bit set k)
 members-none set k = has_bit-zero k ∙ sym (ap (λ b. b && has_bit set k) (le-ltb k 0 (omega arith)))
@@ -21,10 +22,6 @@ members-next set word bit x are alone k = either_members word bit k ∙ ap₂ (�
 pub members-all : (n set word end : ℕ) → n ≤ end → set < 2 ^ n → ((k : ℕ) → has_bit word k ≡ (nat_lt k end && has_bit set k)) → word ≡ set
 members-all n set word end far few are = same-word word set (λ k. are k ∙ at k (cases_Bool (has_bit set k)))
   where
-    none : (b : Bool) → (b && false) ≡ false
-    none true = refl
-    none false = refl
-
     at : (k : ℕ) → (has_bit set k ≡ true) ⊎ (has_bit set k ≡ false) → (nat_lt k end && has_bit set k) ≡ has_bit set k
     at k (inl e) = let l : k < n = has_bit-below set n k few e in ap (λ b. b && has_bit set k) (lt-ltb k end (omega (arith, l, far)))
-    at k (inr e) = rw e (none (nat_lt k end))
+    at k (inr e) = rw e (and-false (nat_lt k end))

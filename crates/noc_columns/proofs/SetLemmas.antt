@@ -7,19 +7,12 @@ use Rattle.noc_packet.proofs.SetLemmas.{both_members, either_members, has_bit-ze
 use Rattle.noc_sets.specs.Sets.{differ, less}
 use Rattle.noc_sets.proofs.MemberLemmas.{less_members, or-false, power-members, same-word, xor_members}
 use Rattle.noc_columns.specs.Words.{Numbering, set_alike, set_below, set_by, set_of, word}
+use Rattle.noc_columns.proofs.LoopLemmas.{and-false, and-true}
 
 -- ---- the members of a set that is told by a test
-one-members : (b : Bool) (n k : ℕ) → has_bit (if b then 2 ^ n else 0) k ≡ (nat_eq k n && b)
+pub one-members : (b : Bool) (n k : ℕ) → has_bit (if b then 2 ^ n else 0) k ≡ (nat_eq k n && b)
 one-members true n k = power-members n k ∙ sym (and-true (nat_eq k n))
-  where
-    and-true : (x : Bool) → (x && true) ≡ x
-    and-true true = refl
-    and-true false = refl
 one-members false n k = has_bit-zero k ∙ sym (and-false (nat_eq k n))
-  where
-    and-false : (x : Bool) → (x && false) ≡ false
-    and-false true = refl
-    and-false false = refl
 
 pub below-members : (n : ℕ) (test : ℕ → Bool) (k : ℕ) → has_bit (set_below n test) k ≡ (nat_lt k n && test k)
 below-members zero test k = has_bit-zero k ∙ sym (ap (λ b. b && test k) (le-ltb k 0 (omega arith)))
@@ -100,11 +93,7 @@ by-term n r (alike word) = refl
 by-term n r none = below-same n.size _ (λ k. false) (λ k l. has_bit-zero r) ∙ nothing n.size
   where
     nothing : (m : ℕ) → set_below m (λ k. false) ≡ 0
-    nothing m = same-word _ 0 (λ k. below-members m (λ j. false) k ∙ and-no (nat_lt k m) ∙ sym (has_bit-zero k))
-      where
-        and-no : (a : Bool) → (a && false) ≡ false
-        and-no true = refl
-        and-no false = refl
+    nothing m = same-word _ 0 (λ k. below-members m (λ j. false) k ∙ and-false (nat_lt k m) ∙ sym (has_bit-zero k))
 by-term n r (both a b) = by-op bit_and (λ x y. x && y) both_members refl n r (λ i. word_value i a) (λ i. word_value i b) ∙ ap₂ bit_and (by-term n r a) (by-term n r b)
 by-term n r (either a b) = by-op bit_or (λ x y. x || y) either_members refl n r (λ i. word_value i a) (λ i. word_value i b) ∙ ap₂ bit_or (by-term n r a) (by-term n r b)
 by-term n r (other a b) = by-op bit_xor differ xor_members refl n r (λ i. word_value i a) (λ i. word_value i b) ∙ ap₂ bit_xor (by-term n r a) (by-term n r b)

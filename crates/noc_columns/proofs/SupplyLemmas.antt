@@ -15,6 +15,7 @@ use Rattle.noc_columns.specs.declared.ports.Ports.{Ports}
 use Rattle.noc_columns.specs.declared.supply.Digits.{Digits}
 use Rattle.noc_columns.specs.declared.supply.Sends.{Sends}
 use Rattle.noc_columns.specs.declared.supply.TheConstants.{FOURS, ONES, TWOS}
+use Rattle.noc_columns.proofs.LoopLemmas.{and-true}
 use Rattle.noc_columns.proofs.SetLemmas.{below-members}
 
 -- the number with these bits
@@ -211,10 +212,6 @@ having-is a b c s x y z n few e f g =
     group true true v w = refl
     group true false v w = refl
     group false u v w = refl
-
-    and-true : (b : Bool) → (b && true) ≡ b
-    and-true true = refl
-    and-true false = refl
 
 -- a number is made of its digits
 pub number-of : (n : ℕ) → n < 8 → number (nat_eq (n % 2) 1) (nat_eq (n / 2 % 2) 1) (nat_eq (n / 2 / 2 % 2) 1) ≡ n

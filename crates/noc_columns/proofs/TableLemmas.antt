@@ -5,6 +5,7 @@ use Rattle.noc_packet.specs.Set.{has_bit, IsLeast}
 use Rattle.noc_packet.proofs.SetLemmas.{either_members, has_bit-zero}
 use Rattle.noc_sets.specs.Sets.{less, lowest}
 use Rattle.noc_sets.proofs.MemberLemmas.{less_members, or-zero, power-members, same-word}
+use Rattle.noc_sets.proofs.UnionLemmas.{or-assoc}
 use Rattle.noc_columns.proofs.LoopLemmas.{all-done, none-left, not-left}
 
 -- none of a set, and all of it
@@ -19,12 +20,8 @@ pub or-joined : (a b d : ℕ) → bit_or (bit_or a b) d ≡ bit_or a (bit_or b d
 or-joined a b d = same-word _ _ (λ k.
     either_members (bit_or a b) d k
     ∙ ap (λ x. x || has_bit d k) (either_members a b k)
-    ∙ assoc (has_bit a k) (has_bit b k) (has_bit d k)
+    ∙ or-assoc (has_bit a k) (has_bit b k) (has_bit d k)
     ∙ sym (either_members a (bit_or b d) k ∙ ap (λ x. has_bit a k || x) (either_members b d k)))
-  where
-    assoc : (x y z : Bool) → ((x || y) || z) ≡ (x || (y || z))
-    assoc true y z = refl
-    assoc false y z = refl
 
 pub put-none : (old set : ℕ) (b : Bool) → old ≡ (if b then bit_or old (less set set) else old)
 put-none old set true = sym (ap (bit_or old) (less-self set) ∙ or-zero old)

@@ -7,38 +7,27 @@ use Rattle.noc_packet.specs.Set.{has_bit, IsLeast}
 use Rattle.noc_packet.proofs.SetLemmas.{both_members, either_members, has_bit-zero, same_set}
 use Rattle.noc_sets.specs.Sets.{less, lowest}
 use Rattle.noc_sets.specs.Unions.{union_from}
-use Rattle.noc_sets.proofs.MemberLemmas.{ones-members, or-false, or-zero, power-members}
+use Rattle.noc_sets.proofs.MemberLemmas.{ones-members, or-false, or-zero}
 use Rattle.noc_columns.specs.Picks.{channels_of, links_of}
 use Rattle.noc_columns.specs.Words.{AreApart, Numbering, set_of, word}
 use Rattle.noc_columns.specs.declared.ports.RouterPorts.{RouterPorts}
 use Rattle.noc_columns.proofs.ByRouterLemmas.{link-word, local-word}
 use Rattle.noc_columns.proofs.ChannelLemmas.{channels-apart, port-below, positive}
-use Rattle.noc_columns.proofs.LoopLemmas.{left-members}
+use Rattle.noc_columns.proofs.LoopLemmas.{and-false, and-true, left-members}
 use Rattle.noc_columns.proofs.PickLemmas.{apart}
 use Rattle.noc_columns.proofs.PortLemmas.{link-index, member-below}
+use Rattle.noc_columns.proofs.SetLemmas.{one-members}
 use Rattle.noc_columns.proofs.SupplyLemmas.{member-is}
 use Rattle.noc_columns.proofs.TableLemmas.{or-joined}
 use Rattle.noc_columns.proofs.WalkLemmas.{union-alike}
 
 -- ---- the words that have a router
-alone-is : (k i : ℕ) (inside : Bool) → has_bit (if inside then 2 ^ i else 0) k ≡ (nat_eq k i && inside)
-alone-is k i true = power-members i k ∙ at (nat_eq k i)
-  where
-    at : (b : Bool) → b ≡ (b && true)
-    at true = refl
-    at false = refl
-alone-is k i false = has_bit-zero k ∙ at (nat_eq k i)
-  where
-    at : (b : Bool) → false ≡ (b && false)
-    at true = refl
-    at false = refl
-
 -- one word more is looked at
 pub used-next : (used alone i : ℕ) (words : List ℕ) (k : ℕ) → has_bit used k ≡ (nat_lt k i && not (nat_eq (word k words) 0))
     → alone ≡ (if not (nat_eq (word i words) 0) then 2 ^ i else 0)
     → has_bit (bit_or used alone) k ≡ (nat_lt k (i + 1) && not (nat_eq (word k words) 0))
 used-next used alone i words k had one =
-    either_members used alone k ∙ ap₂ (λ a b. a || b) had (ap (λ w. has_bit w k) one ∙ alone-is k i (some i)) ∙ at (cases_eq k i)
+    either_members used alone k ∙ ap₂ (λ a b. a || b) had (ap (λ w. has_bit w k) one ∙ one-members (some i) i k) ∙ at (cases_eq k i)
   where
     some : ℕ → Bool
     some j = not (nat_eq (word j words) 0)
@@ -61,22 +50,14 @@ pub used-all : (used count end k : ℕ) (some : Bool) → count ≤ end → has_
 used-all used count end k some few is =
     both_members used (2 ^ count - 1) k ∙ ap₂ (λ a b. a && b) is (ones-members count k) ∙ at (cases_lt k count)
   where
-    turned : (s : Bool) → (s && true) ≡ s
-    turned true = refl
-    turned false = refl
-
-    none : (s : Bool) → (s && false) ≡ false
-    none true = refl
-    none false = refl
-
     at : (k < count) ⊎ (count ≤ k) → ((nat_lt k end && some) && nat_lt k count) ≡ (nat_lt k count && some)
     at (inl l) =
         ap₂ (λ a b. (a && some) && b) (lt-ltb k end (omega (arith, l, few))) (lt-ltb k count l)
-        ∙ turned some
+        ∙ and-true some
         ∙ sym (ap (λ b. b && some) (lt-ltb k count l))
     at (inr m) =
         ap (λ b. (nat_lt k end && some) && b) (le-ltb k count m)
-        ∙ none (nat_lt k end && some)
+        ∙ and-false (nat_lt k end && some)
         ∙ sym (ap (λ b. b && some) (le-ltb k count m))
 
 module _ (count used : ℕ) (words : List ℕ) (is : (i : ℕ) → has_bit used i ≡ (nat_lt i count && not (nat_eq (word i words) 0))) where
@@ -193,23 +174,15 @@ module _ (n : Numbering) (apart : AreApart n) (r : ℕ) (words : List ℕ) where
     | inl same ↦
         let here : n.index k ≡ t = ap n.index same ∙ is in
         let had : has_bit rest (n.index k) ≡ true = ap (has_bit rest) here ∙ least.0 in
-        let gone : has_bit after (n.index k) ≡ false = left k ∙ ap (λ b. has_bit rest (n.index k) && not b) (eq-eqb (n.index k) t here) ∙ and-no (has_bit rest (n.index k)) in
+        let gone : has_bit after (n.index k) ≡ false = left k ∙ ap (λ b. has_bit rest (n.index k) && not b) (eq-eqb (n.index k) t here) ∙ and-false (has_bit rest (n.index k)) in
         let member : has_bit (set_of n r words) k ≡ has_bit (word t words) r = ap (has_bit (set_of n r words)) same ∙ member-is n r c words few ∙ ap (λ i. has_bit (word i words) r) is in
         ap₂ (λ a b. a && not b) member gone
-        ∙ and-yes (has_bit (word t words) r)
+        ∙ and-true (has_bit (word t words) r)
         ∙ sym (ap₂ (λ a b. (has_bit (set_of n r words) k && not a) || (b && has_bit (word t words) r)) had (eq-eqb k c same)
-        ∙ ap (λ b. b || has_bit (word t words) r) (and-no (has_bit (set_of n r words) k)))
+        ∙ ap (λ b. b || has_bit (word t words) r) (and-false (has_bit (set_of n r words) k)))
     | inr other ↦ apart-from other (cases_Bool (has_bit (set_of n r words) k)) ∙ sym (ap (λ b. walked n r words rest k || (b && has_bit (word t words) r)) (ne_eqb k c other) ∙ or-false (walked n r words rest k))
   ]
     where
-      and-yes : (b : Bool) → (b && true) ≡ b
-      and-yes true = refl
-      and-yes false = refl
-
-      and-no : (b : Bool) → (b && false) ≡ false
-      and-no true = refl
-      and-no false = refl
-
       left : (k : ℕ) → has_bit after (n.index k) ≡ (has_bit rest (n.index k) && not (nat_eq (n.index k) t))
       left k = ap (λ w. has_bit w (n.index k)) after_is ∙ left-members rest t (n.index k) least
 
@@ -217,15 +190,11 @@ module _ (n : Numbering) (apart : AreApart n) (r : ℕ) (words : List ℕ) where
       apart-from other (inl e) =
           let l = member-below n r words k e in
           let away : n.index k ≢ t = λ same. other (apart k c l few (same ∙ sym is)) in
-          ap (λ b. has_bit (set_of n r words) k && not b) (left k ∙ ap (λ b. has_bit rest (n.index k) && not b) (ne_eqb (n.index k) t away) ∙ and-yes (has_bit rest (n.index k)))
+          ap (λ b. has_bit (set_of n r words) k && not b) (left k ∙ ap (λ b. has_bit rest (n.index k) && not b) (ne_eqb (n.index k) t away) ∙ and-true (has_bit rest (n.index k)))
       apart-from other (inr e) = ap (λ b. b && not (has_bit after (n.index k))) e ∙ sym (ap (λ b. b && not (has_bit rest (n.index k))) e)
 
   pub walked-all : (rest : ℕ) → rest ≡ 0 → (k : ℕ) → walked n r words rest k ≡ has_bit (set_of n r words) k
-  walked-all rest none k = ap (λ w. has_bit (set_of n r words) k && not (has_bit w (n.index k))) none ∙ ap (λ b. has_bit (set_of n r words) k && not b) (has_bit-zero (n.index k)) ∙ yes (has_bit (set_of n r words) k)
-    where
-      yes : (b : Bool) → (b && true) ≡ b
-      yes true = refl
-      yes false = refl
+  walked-all rest none k = ap (λ w. has_bit (set_of n r words) k && not (has_bit w (n.index k))) none ∙ ap (λ b. has_bit (set_of n r words) k && not b) (has_bit-zero (n.index k)) ∙ and-true (has_bit (set_of n r words) k)
 
 -- ---- a walk that adds a set for each channel that it comes to
 abbrev pub sum_of : (ℕ → Bool) → (ℕ → ℕ) → ℕ → ℕ

@@ -3,15 +3,15 @@ use Rattle.std.proofs.Common.{◌≡◌, ◌≢◌, ℕ, zero, suc, ◌^◌, ◌
 use Rattle.std.specs.Prelude.{◌⊎◌, ◌&&◌, ◌||◌, not, nat_eq, if◌then◌else◌}
 use Rattle.std.proofs.lemmas.Bool.{cases_eq, cases_lt, eq-eqb, le-ltb, ne_eqb}
 use Rattle.noc_packet.specs.Set.{has_bit, IsLeast}
-use Rattle.noc_packet.proofs.SetLemmas.{both_members, either_members, has_bit-zero, same_set}
+use Rattle.noc_packet.proofs.SetLemmas.{both_members, either_members, has_bit-zero}
 use Rattle.noc_sets.specs.Sets.{less, lowest}
 use Rattle.noc_sets.specs.Unions.{union_from}
-use Rattle.noc_sets.proofs.MemberLemmas.{or-false, or-right, or-zero, power-members, same-word}
-use Rattle.noc_sets.proofs.UnionLemmas.{or-assoc}
+use Rattle.noc_sets.proofs.MemberLemmas.{or-false, or-right, or-zero, same-word}
 use Rattle.noc_columns.specs.Arrivals.{leaves_from}
 use Rattle.noc_columns.specs.Words.{Numbering, set_below, set_of, word}
 use Rattle.noc_columns.proofs.LoopLemmas.{all-done, left-part, none-left, not-done, not-left}
-use Rattle.noc_columns.proofs.SetLemmas.{below-members}
+use Rattle.noc_columns.proofs.SetLemmas.{below-members, one-members}
+use Rattle.noc_columns.proofs.TableLemmas.{or-joined}
 
 -- the routers of a word have got their bits, but for those that are left
 pub record AreAdded (routers rest : ℕ) (bit : ℕ → ℕ) (old now : List ℕ) : Type 0 where
@@ -99,22 +99,10 @@ pub last-step : (set rest after t : ℕ) (part : (k : ℕ) → has_bit rest k �
     → (r : ℕ) → r < 64 → has_bit (bit_or last bit) r ≡ ((has_bit set r && not (has_bit after r)) && test r)
 last-step set rest after t part least after_is test last bit is bit_is r few =
     either_members last bit r
-    ∙ ap₂ (λ a b. a || b) (is r few) (ap (λ w. has_bit w r) bit_is ∙ one (test t))
+    ∙ ap₂ (λ a b. a || b) (is r few) (ap (λ w. has_bit w r) bit_is ∙ one-members (test t) t r)
     ∙ at (cases_eq r t)
     ∙ sym (ap (λ b. b && test r) (done-more set rest after t part least after_is r))
   where
-    one : (b : Bool) → has_bit (if b then 2 ^ t else 0) r ≡ (nat_eq r t && b)
-    one true = power-members t r ∙ sym (and-true (nat_eq r t))
-      where
-        and-true : (x : Bool) → (x && true) ≡ x
-        and-true true = refl
-        and-true false = refl
-    one false = has_bit-zero r ∙ sym (and-false (nat_eq r t))
-      where
-        and-false : (x : Bool) → (x && false) ≡ false
-        and-false true = refl
-        and-false false = refl
-
     split : (a b c : Bool) → ((a && c) || (b && c)) ≡ ((a || b) && c)
     split true true true = refl
     split true true false = refl
@@ -135,18 +123,11 @@ pub union-alike : (base n : ℕ) (f g : ℕ → ℕ) → ((k : ℕ) → k < n �
 union-alike base zero f g same = refl
 union-alike base (suc n) f g same = ap₂ bit_or (union-alike base n f g (λ k l. same k (omega (arith, l)))) (same n (omega arith))
 
-joined : (a b c : ℕ) → bit_or (bit_or a b) c ≡ bit_or a (bit_or b c)
-joined a b c = same_set _ _ (λ k.
-    either_members (bit_or a b) c k
-    ∙ ap (λ x. x || has_bit c k) (either_members a b k)
-    ∙ or-assoc (has_bit a k) (has_bit b k) (has_bit c k)
-    ∙ sym (either_members a (bit_or b c) k ∙ ap (λ x. has_bit a k || x) (either_members b c k)))
-
 pub union-set : (base n : ℕ) (test : ℕ → Bool) → union_from base n (λ c. if test c then 2 ^ c else 0) ≡ bit_or base (set_below n test)
 union-set base zero test = sym (or-zero base)
 union-set base (suc n) test =
     ap (λ u. bit_or u (if test n then 2 ^ n else 0)) (union-set base n test)
-    ∙ joined base (set_below n test) (if test n then 2 ^ n else 0)
+    ∙ or-joined base (set_below n test) (if test n then 2 ^ n else 0)
 
 -- ---- what leaves the network
 pub arrived-is : (n : Numbering) (r local : ℕ) (arrived moved last : List ℕ) (port : ℕ → ℕ) (to_local : ℕ)
