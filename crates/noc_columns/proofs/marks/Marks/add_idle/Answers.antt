@@ -17,8 +17,8 @@ invariant_of-self c =
     let idle = bit_or was c.args.channels in
     let asks = not (nat_eq (asks_of waiting wanted idle) 0) in
     let more = asked-more self.asking router asks
-        (λ e. still-asks waiting wanted was waiting wanted idle (λ f. f) (λ k f. f) (λ k f. either_members was c.args.channels k ∙ or-left (has_bit was k) (has_bit c.args.channels k) f) (sym (self.asks router c.requires) ∙ e))
-        c.requires in
+    (λ e. still-asks waiting wanted was waiting wanted idle (λ f. f) (λ k f. f) (λ k f. either_members was c.args.channels k ∙ or-left (has_bit was k) (has_bit c.args.channels k) f) (sym (self.asks router c.requires) ∙ e))
+    c.requires in
     record {
       unasked = self.unasked;
       asks =

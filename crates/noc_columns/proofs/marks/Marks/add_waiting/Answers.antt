@@ -21,9 +21,9 @@ invariant_of-self c =
     let wanted = bit_or wants c.args.wanted in
     let asks = not (nat_eq (asks_of waiting wanted idle) 0) in
     let more = asked-more self.asking router asks
-        (λ e. still-asks waits wants idle waiting wanted idle (λ some none. some (or-none waits one none))
-        (λ k f. either_members wants c.args.wanted k ∙ or-left (has_bit wants k) (has_bit c.args.wanted k) f) (λ k f. f) (sym (self.asks router c.requires.router) ∙ e))
-        c.requires.router in
+    (λ e. still-asks waits wants idle waiting wanted idle (λ some none. some (or-none waits one none))
+    (λ k f. either_members wants c.args.wanted k ∙ or-left (has_bit wants k) (has_bit c.args.wanted k) f) (λ k f. f) (sym (self.asks router c.requires.router) ∙ e))
+    c.requires.router in
     let fits : wanted < 2 ^ 64 = or_lt 64 wants c.args.wanted (self.fit router c.requires.router) c.ranges.wanted.fits in
     record {
       unasked = self.unasked;
