@@ -8,7 +8,7 @@ use Rattle.noc_sets.specs.Column.{RouterMarks}
 use Rattle.noc_sets.specs.Routed.{HasRouted}
 use Rattle.noc_sets.proofs.MemberLemmas.{or-false, or-left, or-right, power-members, same-word}
 use Rattle.noc_columns.specs.Heads.{Heading, headed, headed_marks}
-use Rattle.noc_columns.proofs.LoopLemmas.{and-false}
+use Rattle.noc_columns.proofs.LoopLemmas.{and-false, or-true}
 
 -- what routing changes of a router, part by part
 abbrev pub the-heading : ℕ → ℕ → (ℕ → ℕ) → Heading
@@ -24,10 +24,6 @@ pub record IsHeaded (test : ℕ → Bool) (set : ℕ → ℕ) (h x : Heading) : 
   pub wants : (k o : ℕ) → test k ≡ true → has_bit (set k) o ≡ true → has_bit x.wanted o ≡ true
   pub still : (o : ℕ) → has_bit h.wanted o ≡ true → has_bit x.wanted o ≡ true
   pub waiting : (k : ℕ) → has_bit x.waiting k ≡ (has_bit h.waiting k || test k)
-
-or-true : (b : Bool) → (b || true) ≡ true
-or-true true = refl
-or-true false = refl
 
 module _ (test : ℕ → Bool) (set : ℕ → ℕ) (h : Heading) where
   -- in none

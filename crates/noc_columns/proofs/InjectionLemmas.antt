@@ -14,7 +14,7 @@ use Rattle.noc_columns.specs.Words.{Numbering, all_of, set_alike, set_below, set
 use Rattle.noc_columns.specs.declared.channels.Inputs.{Inputs}
 use Rattle.noc_columns.specs.declared.planes.Planes.{Planes}
 use Rattle.noc_columns.specs.declared.ports.Ports.{Ports}
-use Rattle.noc_columns.proofs.LoopLemmas.{and-false, and-true}
+use Rattle.noc_columns.proofs.LoopLemmas.{and-false, and-true, not-not}
 use Rattle.noc_columns.proofs.PassLemmas.{some-same}
 use Rattle.noc_columns.proofs.PickLemmas.{below-some, chain-lowest, find-first, none-each, some-asks, some-each, union-members}
 use Rattle.noc_columns.proofs.PlaneLemmas.{any_term, leaves, likes, value-any, value-leaves, value-likes, value-wrong, wrong_term}
@@ -93,12 +93,8 @@ module _ (deep : Bool) (inputs : Inputs (List ℕ)) where
       let chain = λ (c : ℕ). test c && not (some_below c test) in
       union-members n.size (λ k. free_word deep inputs starts (n.index k)) r
       ∙ first-exists n.size test
-      ∙ sym (ap not (below-some n.size chain) ∙ twice (some_below n.size chain))
+      ∙ sym (ap not (below-some n.size chain) ∙ not-not (some_below n.size chain))
       ∙ ap (λ s. not (nat_eq s 0)) (sym (begins-chain n r starts begun is))
-    where
-      twice : (b : Bool) → not (not b) ≡ b
-      twice true = refl
-      twice false = refl
 
 -- all of them, or none
 pub alike-is : (n : Numbering) (r starts : ℕ) (b : Bool) → has_bit starts r ≡ b → set_alike n r starts ≡ (if b then all_of n else 0)
@@ -115,11 +111,7 @@ pub starts-is : (n : Numbering) (r due busy : ℕ) (injecting : List ℕ) (b : B
 starts-is n r due busy injecting b e f =
     less_members due busy r
     ∙ ap₂ (λ x y. x && not y) e (f ∙ some-asks n r injecting)
-    ∙ ap (λ x. b && x) (twice (nat_eq (set_of n r injecting) 0))
-  where
-    twice : (x : Bool) → not (not x) ≡ x
-    twice true = refl
-    twice false = refl
+    ∙ ap (λ x. b && x) (not-not (nat_eq (set_of n r injecting) 0))
 
 -- ---- what is injected comes
 pub side-index : (local : Ports) (k : ℕ) → local.width ≡ 1 → (port_at local 0).index k ≡ local.first + k

@@ -36,6 +36,14 @@ pub and-false : (b : Bool) → (b && false) ≡ false
 and-false true = refl
 and-false false = refl
 
+pub or-true : (b : Bool) → (b || true) ≡ true
+or-true true = refl
+or-true false = refl
+
+pub not-not : (b : Bool) → not (not b) ≡ b
+not-not true = refl
+not-not false = refl
+
 -- those that are left are members
 pub left-part : (set rest t : ℕ) → IsLeast (has_bit rest) (Some t) → ((i : ℕ) → has_bit rest i ≡ true → has_bit set i ≡ true)
     → (k : ℕ) → has_bit (less rest (lowest rest)) k ≡ true → has_bit set k ≡ true

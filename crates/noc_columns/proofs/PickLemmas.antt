@@ -7,10 +7,10 @@ use Rattle.noc_packet.proofs.SetLemmas.{both_members, either_members, has_bit-ze
 use Rattle.noc_sets.specs.Sets.{less, lowest}
 use Rattle.noc_sets.specs.Turns.{first_bit, in_turn}
 use Rattle.noc_sets.specs.Unions.{some_below, union_from}
-use Rattle.noc_sets.proofs.MemberLemmas.{less_members, lowest_members, same-word, zero_members}
+use Rattle.noc_sets.proofs.MemberLemmas.{less_members, lowest_members, or-false, same-word, zero_members}
 use Rattle.noc_columns.specs.Picks.{turn_word}
 use Rattle.noc_columns.specs.Words.{Numbering, set_below, set_of, word}
-use Rattle.noc_columns.proofs.LoopLemmas.{and-false, and-true}
+use Rattle.noc_columns.proofs.LoopLemmas.{and-false, and-true, not-not, or-true}
 use Rattle.noc_columns.proofs.PassLemmas.{some-same}
 use Rattle.noc_columns.proofs.SetLemmas.{below-both, below-members, below-same}
 
@@ -18,10 +18,6 @@ use Rattle.noc_columns.proofs.SetLemmas.{below-both, below-members, below-same}
 or-both : (a b : Bool) → (a || b) ≡ false → (a ≡ false) × (b ≡ false)
 or-both true b e = absurd (true≢false e)
 or-both false b e = (refl, e)
-
-or-yes : (a : Bool) → (a || true) ≡ true
-or-yes true = refl
-or-yes false = refl
 
 pub none-each : (n : ℕ) (test : ℕ → Bool) → some_below n test ≡ false → (k : ℕ) → k < n → test k ≡ false
 none-each zero test e k l = absurd (omega arith)
@@ -36,7 +32,7 @@ some-each zero test k l e = absurd (omega arith)
 some-each (suc n) test k l e = at (λ j. some-each n test k j e) (cases_eq k n)
   where
     at : (k < n → some_below n test ≡ true) → (k ≡ n) ⊎ (k ≢ n) → (some_below n test || test n) ≡ true
-    at before (inl same) = ap (λ b. some_below n test || b) (ap test (sym same) ∙ e) ∙ or-yes (some_below n test)
+    at before (inl same) = ap (λ b. some_below n test || b) (ap test (sym same) ∙ e) ∙ or-true (some_below n test)
     at before (inr other) = ap (λ b. b || test n) (before (omega arith))
 
 -- the first index below n that passes, if there is one
@@ -112,14 +108,10 @@ turn-below n can ahead first is = at first is
     some : nat_eq (bit_and (set_below n can) (set_below n ahead)) 0 ≡ not (some_below n (λ c. can c && ahead c))
     some = ap (λ x. nat_eq x 0) (sym (below-both n can ahead)) ∙ below-some n (λ c. can c && ahead c)
 
-    or-none : (a : Bool) → (a || false) ≡ a
-    or-none true = refl
-    or-none false = refl
-
     at : (b : Bool) → b ≡ some_below n (λ c. can c && ahead c) → set_below n (λ c. can c && (ahead c || not b)) ≡ in_turn (set_below n can) (set_below n ahead)
-    at true e = below-same n _ (λ c. can c && ahead c) (λ k l. ap (λ x. can k && x) (or-none (ahead k))) ∙ below-both n can ahead
+    at true e = below-same n _ (λ c. can c && ahead c) (λ k l. ap (λ x. can k && x) (or-false (ahead k))) ∙ below-both n can ahead
         ∙ sym (ap (λ b. if b then set_below n can else bit_and (set_below n can) (set_below n ahead)) (some ∙ ap not (sym e)))
-    at false e = below-same n _ can (λ k l. ap (λ x. can k && x) (or-yes (ahead k)) ∙ and-true (can k))
+    at false e = below-same n _ can (λ k l. ap (λ x. can k && x) (or-true (ahead k)) ∙ and-true (can k))
         ∙ sym (ap (λ b. if b then set_below n can else bit_and (set_below n can) (set_below n ahead)) (some ∙ ap not (sym e)))
 
 -- ---- in words
@@ -187,14 +179,10 @@ module _ (n : Numbering) (r first : ℕ) (ready ahead : List ℕ) (is : has_bit 
       ∙ union-first c l
 
   pub some-first : has_bit (union_from 0 n.size turn) r ≡ not (nat_eq (set_of n r ready) 0)
-  some-first = union-is n.size ∙ all (has_bit first r) refl ∙ sym (ap not (below-some n.size can-is) ∙ twice (some_below n.size can-is))
+  some-first = union-is n.size ∙ all (has_bit first r) refl ∙ sym (ap not (below-some n.size can-is) ∙ not-not (some_below n.size can-is))
     where
       can-is : ℕ → Bool
       can-is c = has_bit (word (n.index c) ready) r
-
-      twice : (b : Bool) → not (not b) ≡ b
-      twice true = refl
-      twice false = refl
 
       unfold-test : (c : ℕ) → test c ≡ (has_bit (word (n.index c) ready) r && (has_bit (word (n.index c) ahead) r || not (has_bit first r)))
       unfold-test c = refl
@@ -215,15 +203,11 @@ module _ (n : Numbering) (r first : ℕ) (ready ahead : List ℕ) (is : has_bit 
             some-each n.size test found.0 found.1 (unfold-test found.0 ∙ and-left-or (can-is found.0) (has_bit (word (n.index found.0) ahead) r) (not (has_bit first r)) found.2)
             ∙ sym (some-each n.size can-is found.0 found.1 (and-left (can-is found.0) (has_bit (word (n.index found.0) ahead) r) found.2))
       ]
-      all false e = some-same n.size test can-is (λ c l. unfold-test c ∙ ap (λ x. can-is c && (has_bit (word (n.index c) ahead) r || not x)) e ∙ ap (λ x. can-is c && x) (or-yes (has_bit (word (n.index c) ahead) r)) ∙ and-true (can-is c))
+      all false e = some-same n.size test can-is (λ c l. unfold-test c ∙ ap (λ x. can-is c && (has_bit (word (n.index c) ahead) r || not x)) e ∙ ap (λ x. can-is c && x) (or-true (has_bit (word (n.index c) ahead) r)) ∙ and-true (can-is c))
 
 -- whether there is one at all
 pub some-asks : (n : Numbering) (r : ℕ) (asks : List ℕ) → some_below n.size (λ c. has_bit (word (n.index c) asks) r) ≡ not (nat_eq (set_of n r asks) 0)
-some-asks n r asks = sym (ap not (below-some n.size (λ c. has_bit (word (n.index c) asks) r)) ∙ twice (some_below n.size (λ c. has_bit (word (n.index c) asks) r)))
-  where
-    twice : (b : Bool) → not (not b) ≡ b
-    twice true = refl
-    twice false = refl
+some-asks n r asks = sym (ap not (below-some n.size (λ c. has_bit (word (n.index c) asks) r)) ∙ not-not (some_below n.size (λ c. has_bit (word (n.index c) asks) r)))
 
 -- the pointer goes on where one is taken
 pub moved-bit : (before old any : ℕ) (r : ℕ) (none next : Bool) → has_bit any r ≡ not none → has_bit before r ≡ next → has_bit (bit_or (bit_and before any) (less old any)) r ≡ (if none then has_bit old r else next)

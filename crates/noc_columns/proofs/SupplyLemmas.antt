@@ -5,7 +5,7 @@ use Rattle.noc_topo.specs.Lists.{one_if}
 use Rattle.noc_packet.specs.Set.{has_bit}
 use Rattle.noc_packet.proofs.SetLemmas.{both_members, either_members, has_bit-zero}
 use Rattle.noc_sets.specs.Sets.{differ}
-use Rattle.noc_sets.proofs.MemberLemmas.{ones-members, xor_members}
+use Rattle.noc_sets.proofs.MemberLemmas.{ones-members, or-false, xor_members}
 use Rattle.std.proofs.lemmas.Nat.{mul-add-lt}
 use Rattle.std.proofs.lemmas.Bool.{cases_eq, cases_lt, eq-eqb, le-ltb, lt-ltb, ne_eqb}
 use Rattle.noc_columns.specs.Picks.{port_at}
@@ -15,7 +15,7 @@ use Rattle.noc_columns.specs.declared.ports.Ports.{Ports}
 use Rattle.noc_columns.specs.declared.supply.Digits.{Digits}
 use Rattle.noc_columns.specs.declared.supply.Sends.{Sends}
 use Rattle.noc_columns.specs.declared.supply.TheConstants.{FOURS, ONES, TWOS}
-use Rattle.noc_columns.proofs.LoopLemmas.{and-true}
+use Rattle.noc_columns.proofs.LoopLemmas.{and-true, or-true}
 use Rattle.noc_columns.proofs.SetLemmas.{below-members}
 
 -- the number with these bits
@@ -67,14 +67,6 @@ high-number false true true f = refl
 high-number false false true f = refl
 
 -- ---- the ports, of which the last is the local one
-or-false : (a : Bool) → (a || false) ≡ a
-or-false true = refl
-or-false false = refl
-
-or-true : (a : Bool) → (a || true) ≡ true
-or-true true = refl
-or-true false = refl
-
 pub port-two : (a b c : Bool) (f : ℕ → Bool) → number a b c ≤ 2 → ((if a then f 1 else f 0) || b) ≡ (if nat_lt (number a b c) 2 then f (number a b c) else true)
 port-two true true c f l = absurd (omega arith)
 port-two true false true f l = absurd (omega arith)

@@ -9,7 +9,7 @@ use Rattle.noc_sets.proofs.UnionLemmas.{or-assoc}
 use Rattle.noc_columns.proofs.LoopLemmas.{all-done, none-left, not-left}
 
 -- none of a set, and all of it
-less-self : (set : ℕ) → less set set ≡ 0
+pub less-self : (set : ℕ) → less set set ≡ 0
 less-self set = same-word _ 0 (λ k. less_members set set k ∙ none-left set k ∙ sym (has_bit-zero k))
 
 pub less-none : (set rest : ℕ) → rest ≡ 0 → less set rest ≡ set

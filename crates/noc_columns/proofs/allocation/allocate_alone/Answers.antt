@@ -12,8 +12,9 @@ use Rattle.noc_columns.specs.Grants.{IsNumbered}
 use Rattle.noc_columns.specs.Picks.{channels_of}
 use Rattle.noc_columns.specs.Words.{set_of, word}
 use Rattle.noc_columns.proofs.AllotmentLemmas.{allotted-none, allotted-one, fits-below}
-use Rattle.noc_columns.proofs.AloneLemmas.{alone-least, alone-requests, asks-alone, granted-alone, less-same, past-alone}
+use Rattle.noc_columns.proofs.AloneLemmas.{alone-least, alone-requests, asks-alone, granted-alone, past-alone}
 use Rattle.noc_columns.proofs.LoopLemmas.{least-same}
+use Rattle.noc_columns.proofs.TableLemmas.{less-self}
 use Rattle.noc_columns.proofs.allocation.allocate_alone.Goals as goal
 
 pub grant-requires : goal.grant-requires
@@ -72,7 +73,7 @@ returns-else-free-eq0 c = λ lost.
     let asked : requests out ≡ 2 ^ t = ap (λ b. if b then (if nat_eq free 0 then 0 else 2 ^ t) else 0) (eq-eqb out (least free) (least-same free out some fits c.least-else-free-eq0.ensures.least)) ∙ ap (λ b. if b then 0 else 2 ^ t) filled in
     let before : slice_index_or put.new.self.turns router [] ≡ slice_index_or old.turns router [] = ap (λ xs. slice_index_or xs router []) put.ensures.turns in
     let after : slice_index_or (set put.new.self.turns router c.grant.new.turn) router [] ≡ c.grant.new.turn = get_or-set_same put.new.self.turns router c.grant.new.turn [] (omega arith) in
-    let nobody : less (2 ^ t) (2 ^ t) ≡ 0 = less-same (2 ^ t) in
+    let nobody : less (2 ^ t) (2 ^ t) ≡ 0 = less-self (2 ^ t) in
     allotted-one ports router old _ c.args.grants.now c.grant.new.grants lost lost requests (2 ^ out) (2 ^ t) (2 ^ t) (sets t) c.requires.may (subst (λ x. x < 2 ^ 64) its (omega arith))
     (subst (λ x. AreAsks (has_bit waiting) idle sets requests x (2 ^ t) (sets t)) its
     (subst (λ b. AreAsks (has_bit waiting) idle sets requests (lowest free) (if b then 0 else 2 ^ t) (sets t)) filled (asks-alone waiting idle t free sets one refl fits)))
