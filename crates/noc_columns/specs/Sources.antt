@@ -1,5 +1,5 @@
 -- The sources of the routers of a block.
-use Rattle.std.specs.Prelude.{◌≡◌, ◌⊎◌, ℕ, ◌+◌, ◌%◌, ◌<◌, ◌≤◌, Bool, true, false, List, [], ◌∷◌, map, nat_eq, nat_le, slice_index}
+use Rattle.std.specs.Prelude.{◌≡◌, ◌⊎◌, ℕ, ◌+◌, ◌-◌, ◌%◌, ◌^◌, ◌<◌, ◌≤◌, Bool, true, false, List, [], ◌∷◌, map, min, nat_eq, nat_le, slice_index}
 use Rattle.noc_packet.specs.Set.{has_bit}
 use Rattle.noc_sets.specs.Planes.{plane_number}
 use Rattle.noc_sets.specs.Source.{NEVER, Source, Start, first_source, next_source, start_in}
@@ -28,6 +28,10 @@ pub record AreKnown (cycle : ℕ) (due : Due) : Type 0 where
   pub come : (r t : ℕ) → r < ROUTERS → cycle < t → t < due.until
       → has_bit (come_in due t) r ≡ nat_eq t (slice_index due.at r)
   pub until : due.until ≤ cycle + SOON
+
+-- .. where all that there is room for is known
+abbrev pub known_until : ℕ → ℕ
+known_until cycle = min (cycle + SOON) (2 ^ 32 - 1)
 
 -- these routers have a packet that is due in a cycle, and the next of the others is due then
 pub record AreDue (cycle : ℕ) (due : Due) : Type 0 where

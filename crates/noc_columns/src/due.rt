@@ -1,7 +1,7 @@
 //! Which sources have a packet that is due.
 
 ghost use Rattle.std.specs.Prelude.{◌≡◌, ◌≢◌, ◌<◌, ◌≤◌, ◌+◌, ◌&&◌, ◌||◌, ℕ, true, nat_eq, nat_le, slice_index, if◌then◌else◌};
-ghost use Rattle.noc_columns.specs.Sources.{AreDue, AreKnown, come_in};
+ghost use Rattle.noc_columns.specs.Sources.{AreDue, AreKnown, come_in, known_until};
 ghost use Rattle.noc_columns.specs.Prelude.{has_bit};
 
 use crate::planes::less;
@@ -34,6 +34,7 @@ impl Due {
     pub fn look(&mut self, cycle: u32)
         ensures at { self.new.at ≡ self.old.at }
         ensures due { AreDue cycle self.new }
+        ensures until { self.new.until ≡ known_until cycle }
     {
         self.keep_all(cycle);
         let mut ready = 0;
@@ -102,6 +103,7 @@ impl Due {
         ensures rest { self.new
             ≡ record self.old { soon = self.new.soon; until = self.new.until } }
         ensures known { AreKnown cycle self.new }
+        ensures until { self.new.until ≡ known_until cycle }
     {
         self.soon = [0; SOON];
         self.until = cycle.saturating_add(SOON as u32);
@@ -135,6 +137,7 @@ impl Due {
             → slice_index self.new.at r ≡ slice_index self.old.at r }
         ensures due { slice_index self.old.at router ≤ cycle → AreDue cycle self.old
             → AreDue cycle self.new }
+        ensures until { self.new.until ≡ self.old.until }
     {
         self.at[router] = when;
         self.ready = less(self.ready, alone_if(cycle < when, router));
