@@ -112,6 +112,9 @@ left-step count words left rest left' rest' i s are next is = record {
         let gone : word k left' ≡ 0 = same_set _ _ (λ r. next k r ∙ ap (λ w. has_bit w r && not (nat_eq k i && nat_eq r s)) none ∙ ap (λ b. b && not (nat_eq k i && nat_eq r s)) (has_bit-zero r) ∙ sym (has_bit-zero r)) in
         ap (λ b. b && not (nat_eq (word k left') 0)) e ∙ sym (ap not (eq-eqb (word k left') 0 gone))
 
+pub left-none : (count : ℕ) (words left : List ℕ) (rest : ℕ) → AreLeft count words left rest → rest ≡ 0 → (i : ℕ) → i < count → word i left ≡ 0
+left-none count words left rest are none i l = no-word (word i left) (sym (are.some i l) ∙ ap (λ w. has_bit w i) none ∙ has_bit-zero i)
+
 -- ---- which channels of a router it has come to
 abbrev pub come : Numbering → ℕ → List ℕ → List ℕ → ℕ → Bool
 come n r words left k = has_bit (set_of n r words) k && not (has_bit (set_of n r left) k)
@@ -168,12 +171,9 @@ module _ (n : Numbering) (apart : AreApart n) (r : ℕ) (words left : List ℕ) 
   pub come-all : (count rest : ℕ) → AreLeft count words left rest → rest ≡ 0 → ((k : ℕ) → k < n.size → n.index k < count) → (k : ℕ) → come n r words left k ≡ has_bit (set_of n r words) k
   come-all count rest are none within k = ap (λ b. has_bit (set_of n r words) k && not b) gone ∙ and-true (has_bit (set_of n r words) k)
     where
-      empty : (i : ℕ) → i < count → word i left ≡ 0
-      empty i l = no-word (word i left) (sym (are.some i l) ∙ ap (λ w. has_bit w i) none ∙ has_bit-zero i)
-
       gone : has_bit (set_of n r left) k ≡ false
       gone = elim (cases_lt k n.size) [
-        | inl l ↦ member-is n r k left l ∙ ap (λ w. has_bit w r) (empty (n.index k) (within k l)) ∙ has_bit-zero r
+        | inl l ↦ member-is n r k left l ∙ ap (λ w. has_bit w r) (left-none count words left rest are none (n.index k) (within k l)) ∙ has_bit-zero r
         | inr m ↦ past-all n r left k m
       ]
 

@@ -1,8 +1,8 @@
 //! Output channels of routers are idle again, out of words of channels.
 
-ghost use Rattle.std.specs.Prelude.{◌≡◌, ◌+◌, ◌*◌, ◌^◌, ◌<◌, ◌≤◌, ℕ, bit_or, slice_index, if◌then◌else◌};
+ghost use Rattle.std.specs.Prelude.{◌≡◌, ◌*◌, ◌<◌, ℕ, bit_or, slice_index};
 ghost use Rattle.noc_columns.specs.Marks.{ChangesIdle};
-ghost use Rattle.noc_columns.specs.Prelude.{has_bit, links_of, port_at, set_of, union_from, word};
+ghost use Rattle.noc_columns.specs.Prelude.{links_of, set_of, word};
 
 use crate::channel_table::ChannelTable;
 use crate::marks::Marks;
@@ -15,6 +15,8 @@ pub fn add_links(table: &ChannelTable, words: &mut Words, marks: &mut Marks)
         ≡ bit_or (slice_index marks.old.idle r)
         (set_of (links_of table.now.ports.links) r words.old) }
     ensures kept { ChangesIdle marks.old marks.new }
+    ensures left { (i : ℕ) → i < table.now.ports.links.width * table.now.ports.links.vcs
+        → word i words.new ≡ 0 }
 {
     let links = &table.ports.links;
     let mut rest = used_words(links.width * links.vcs, words);

@@ -3,7 +3,7 @@ use Rattle.std.specs.Prelude.{nat_eq, if◌then◌else◌}
 use Rattle.noc_packet.specs.Set.{has_bit}
 use Rattle.noc_columns.specs.Picks.{links_of}
 use Rattle.noc_columns.specs.Words.{word}
-use Rattle.noc_columns.proofs.ComeLemmas.{come, come-all, come-next, come-none, left-some, left-start, left-step, or-if}
+use Rattle.noc_columns.proofs.ComeLemmas.{come, come-all, come-next, come-none, left-none, left-some, left-start, left-step, or-if}
 use Rattle.noc_columns.proofs.MarkLemmas.{idle-next, idle-start}
 use Rattle.noc_columns.proofs.PlaceLemmas.{one-router}
 use Rattle.noc_columns.proofs.SupplyLemmas.{member-is}
@@ -79,3 +79,6 @@ returns-clause-idle c = λ r l.
     ∙ union-alike base n.size (sum_of (come n r words left) (λ k. 2 ^ k)) (λ k. if has_bit (word (n.index k) words) r then 2 ^ k else 0)
     (λ k m. ap (λ b. if b then 2 ^ k else 0) (come-all n (links-apart ports) r words left n.size c.loop-rest.rest c.loop-rest.invariant.left (omega arith) (links-within ports) k ∙ member-is n r k words m))
     ∙ union-set base n.size (λ k. has_bit (word (n.index k) words) r)
+
+pub returns-clause-left : goal.returns-clause-left
+returns-clause-left c = left-none (c.args.table.now.ports.links.width * c.args.table.now.ports.links.vcs) c.args.words.now c.loop-rest.words c.loop-rest.rest c.loop-rest.invariant.left (omega arith)
