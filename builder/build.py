@@ -302,15 +302,19 @@ class Build:
         self.running[crate] = Check(words, crate.texts, self.lock, jobs, min(19, priority))
 
     def begin_what_can(self) -> None:
-        """Begins the crates whose libraries are made, those with the longest chain behind them first, and as many as
-        there are processors. One waits for no crate with a shorter chain, which has a lower priority beside it."""
+        """Begins the crates whose libraries are made, those with the longest chain behind them first. One waits for no
+        crate with a shorter chain, which has a lower priority beside it. It has as many jobs, four at most, as those with
+        a longer one and what goes on beside the build leave of the processors, where each of the others gets one. By
+        more jobs than processors the same checks take half as much processor time again."""
         processors = len(os.sched_getaffinity(0))
         ready = [it for it in self.left if it not in self.running and not any(on in self.left for on in it.on)]
-        for crate in sorted(ready, key=self.chain.__getitem__, reverse=True):
-            before = sum(self.chain[it] >= self.chain[crate] for it in self.running) + self.beside.is_under_way()
+        ready.sort(key=self.chain.__getitem__, reverse=True)
+        for behind, crate in zip(range(len(ready) - 1, -1, -1), ready):
+            before = sum(check.jobs for it, check in self.running.items() if self.chain[it] >= self.chain[crate])
+            before += self.beside.is_under_way()
             if self.running and (before >= processors or free_memory() < 2 * MEMORY):
                 return
-            self.begin(crate, min(4, processors))
+            self.begin(crate, max(1, min(4, processors - before - behind)))
 
     def end(self, crate: Crate) -> None:
         """Links a program, or tells why nothing was made. A check that was killed, most likely for memory, runs once
