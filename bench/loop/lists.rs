@@ -1,6 +1,7 @@
 //! What stands for the allocator, the lists and the proved indices of the kit in the copy that
 //! plain.py makes.
 
+use std::marker::PhantomData;
 use std::ops::{Deref, DerefMut, Index, IndexMut};
 use std::slice::{Iter, IterMut};
 
@@ -33,6 +34,21 @@ impl<T> IndexMut<At> for [T] {
 }
 
 pub struct Vec<T>(std::vec::Vec<T>);
+
+impl<T> From<std::vec::Vec<T>> for Vec<T> {
+    fn from(list: std::vec::Vec<T>) -> Vec<T> {
+        Vec(list)
+    }
+}
+
+/// What only clauses see.
+pub struct Snapshot<T>(PhantomData<T>);
+
+impl<T> Snapshot<T> {
+    pub fn of(_: &T) -> Snapshot<T> {
+        Snapshot(PhantomData)
+    }
+}
 
 /// A list of so many equal values.
 pub fn filled<T: Clone>(value: T, count: usize) -> Result<Vec<T>, AllocError> {

@@ -5,7 +5,7 @@
 mod lists;
 
 use lists::Global;
-use noc_engine::Engine;
+use noc_engine::{Engine, Setup};
 use noc_packet::Packet;
 use noc_route::{Relation, RuleName};
 use noc_topo::{Kind, Shape};
@@ -30,7 +30,7 @@ const VERDICTS: [&str; 10] = [
 fn main() {
     let words: Vec<String> = env::args().collect();
     let values = values(&read(&words[2]));
-    let packets = packets(&read(&words[3]));
+    let packets = lists::Vec::from(packets(&read(&words[3])));
     let number = |key: &str| numbers(&values[key])[0];
     let radix: Vec<usize> = numbers(&values["radix"])
         .iter()
@@ -52,8 +52,12 @@ fn main() {
     let queues = noc_queues::starts_by_node(Global, shape.nodes(), &packets)
         .ok()
         .expect("queues");
-    let places = number("buffer") as usize;
-    let mut engine = Engine::new(Global, &relation, places, &packets, &queues)
+    let setup = Setup {
+        relation: &relation,
+        depth: number("buffer") as usize,
+        packets: &packets,
+    };
+    let mut engine = Engine::new(Global, &setup, &queues)
         .ok()
         .expect("an engine");
     let start = Instant::now();

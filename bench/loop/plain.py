@@ -49,7 +49,7 @@ RULES = [(re.compile(pattern, re.MULTILINE), put) for pattern, put in (
     (r"\b([A-Z]\w*): Drop\b", r"\1"),
     (r"(fn clone\(&self\) -> )Result<(.*), AllocError> \{\n(\s*)Ok\((.*)\)\n", r"\1\2 {\n\3\4\n"),
     # Lists are those of lists.rs, and each crate is a module.
-    (r"\bstd::alloc::", "crate::lists::"),
+    (r"\bstd::(?:alloc|snapshot)::", "crate::lists::"),
     (r"vec!\[in alloc; (.*?); ([^;]*?)\](?=\?| else|;)", r"crate::lists::filled(\1, \2)"),
     (r"(?<![\w:])(noc_\w+)::(?=[\w{])", r"crate::\1::"))]
 # An index begins behind a name or a bracket; in comments and texts there is none.

@@ -1,6 +1,7 @@
 pub mod ListLemmas
 pub mod WholeLemmas
 pub mod PassLemmas
+pub mod EngineLemmas
 pub mod ExchangeLemmas
 pub mod TurnedLemmas
 pub mod TileLemmas

@@ -43,9 +43,10 @@ use Rattle.noc_theory_cycles.specs.Fits.{bits_of}
 use Rattle.noc_theory_cycles.specs.Nodes.{ShowsNode}
 use Rattle.noc_theory_cycles.specs.Steps.{held_in, opened_words}
 use Rattle.noc_theory_cycles.proofs.OpeningLemmas.{all-open, node-opens}
-use Rattle.noc_engine.specs.Opened.{IsMadeFrom, IsOpenedTile}
+use Rattle.noc_engine.specs.Opened.{IsOpenedTile}
+use Rattle.noc_engine.specs.Origins.{net_in}
 use Rattle.noc_engine.specs.Shows.{IsPlanOf, ShowsAt, ShowsBlock, ShowsTile, arrival_by, has_router, words_in}
-use Rattle.noc_engine.specs.declared.engine.Engine.{Engine}
+use Rattle.noc_engine.specs.declared.columns.Columns.{Columns}
 use Rattle.noc_engine.specs.declared.plan.Plan.{Plan}
 use Rattle.noc_engine.specs.declared.tile.Tile.{Tile}
 use Rattle.noc_engine.proofs.ListLemmas.{block-of, place-of, there}
@@ -66,54 +67,46 @@ blocks-are net plan size count of size_is some is =
     omega (arith, all, most, last, some)
 
 -- ---- the plan
-module _ (relation : Routes) (places : ℕ) (packets : List Packet) (plan : Plan) (shape : Grid) (vcs count size : ℕ) (same_grid : shape ≡ relation.grid) (same_vcs : vcs ≡ relation.vcs)
+module _ (net : Setup) (plan : Plan) (shape : Grid) (vcs count size : ℕ) (same_grid : shape ≡ net.relation.grid) (same_vcs : vcs ≡ net.relation.vcs)
     (size_is : size ≡ nodes shape) (some : 2 ≤ size) (few : size ≤ 256) (count_is : count ≡ div_ceil size 64)
-    (pattern : IsPatternOf shape vcs places plan.pattern) (around : AreAround shape vcs count plan.around.items) (starts : starts_by plan.starts.items ≡ starts_list packets (nodes relation.grid))
-    (short : length plan.starts.items < 2 ^ 32) (headers : plan.headers.items ≡ map header_of packets) where
+    (pattern : IsPatternOf shape vcs net.depth plan.pattern) (around : AreAround shape vcs count plan.around.items) (starts : starts_by plan.starts.items ≡ starts_list net.packets (nodes net.relation.grid))
+    (short : length plan.starts.items < 2 ^ 32) (headers : plan.headers.items ≡ map header_of net.packets) where
   counted : count ≡ (size + 63) / 64
   counted = count_is ∙ up-to size
 
-  module _ (net : Setup) (made : IsMadeFrom relation places packets net) (good : IsGoodSetup net) where
-    grid-is : shape ≡ net.relation.grid
-    grid-is = same_grid ∙ sym (ap (λ (r : Routes). r.grid) made.relation_is)
+  nodes-are : size ≡ nodes net.relation.grid
+  nodes-are = size_is ∙ ap nodes same_grid
 
-    vcs-is : vcs ≡ net.relation.vcs
-    vcs-is = same_vcs ∙ sym (ap (λ (r : Routes). r.vcs) made.relation_is)
+  pattern-is : IsPatternOf net.relation.grid net.relation.vcs net.depth plan.pattern
+  pattern-is = subst (λ (g : Grid). IsPatternOf g net.relation.vcs net.depth plan.pattern) same_grid (subst (λ (v : ℕ). IsPatternOf shape v net.depth plan.pattern) same_vcs pattern)
 
-    nodes-are : size ≡ nodes net.relation.grid
-    nodes-are = size_is ∙ ap nodes grid-is
+  around-is : AreAround net.relation.grid net.relation.vcs count plan.around.items
+  around-is = subst (λ (g : Grid). AreAround g net.relation.vcs count plan.around.items) same_grid (subst (λ (v : ℕ). AreAround shape v count plan.around.items) same_vcs around)
 
-    pattern-is : IsPatternOf net.relation.grid net.relation.vcs net.depth plan.pattern
-    pattern-is =
-        subst (λ (g : Grid). IsPatternOf g net.relation.vcs net.depth plan.pattern) grid-is
-        (subst (λ (v : ℕ). IsPatternOf shape v net.depth plan.pattern) vcs-is (subst (λ (d : ℕ). IsPatternOf shape vcs d plan.pattern) (sym made.depth_is) pattern))
-
-    around-is : AreAround net.relation.grid net.relation.vcs count plan.around.items
-    around-is = subst (λ (g : Grid). AreAround g net.relation.vcs count plan.around.items) grid-is (subst (λ (v : ℕ). AreAround shape v count plan.around.items) vcs-is around)
-
-    pub plan-is : IsPlanOf net plan
-    plan-is = record {
-      pattern_is = pattern-is;
-      blocks = subst (λ m. m ≤ 64 * length plan.around.items) nodes-are (let m = around.many in omega (arith, counted, m));
-      some = λ b l. subst (λ m. 64 * b < m) nodes-are (let m = around.many in omega (arith, counted, m, l));
-      around = λ b one here.
-          subst (IsAround net.relation.grid net.relation.vcs b) (get_or_from_slice_get plan.around.items b one one here)
-          (around-is.each b one (let inside = slice_get_within plan.around.items b one here in let m = around.many in omega (arith, inside, m)));
-      starts = starts ∙ ap₂ (λ p (r : Routes). starts_list p (nodes r.grid)) (sym made.packets_are) (sym made.relation_is);
-      few_starts = short;
-      headers = headers ∙ ap (map header_of) (sym made.packets_are);
-    }
+  pub plan-is : IsPlanOf net plan
+  plan-is = record {
+    pattern_is = pattern-is;
+    blocks = subst (λ m. m ≤ 64 * length plan.around.items) nodes-are (let m = around.many in omega (arith, counted, m));
+    some = λ b l. subst (λ m. 64 * b < m) nodes-are (let m = around.many in omega (arith, counted, m, l));
+    around = λ b one here.
+        subst (IsAround net.relation.grid net.relation.vcs b) (get_or_from_slice_get plan.around.items b one one here)
+        (around-is.each b one (let inside = slice_get_within plan.around.items b one here in let m = around.many in omega (arith, inside, m)));
+    starts = starts;
+    few_starts = short;
+    headers = headers;
+  }
 
 -- ---- all of it
-pub record IsMade (net : Setup) (firsts : List First) (count : ℕ) (all : Engine) : Type 0 where
+pub record IsMade (net : Setup) (firsts : List First) (count : ℕ) (all : Columns) : Type 0 where
   pub good : IsGoodSetup net
+  pub made : net_in all.origin ≡ net
   pub plan : IsPlanOf net all.plan
   pub count_is : count ≡ length all.plan.around.items
   pub firsts_are : AreFirsts net.packets (nodes net.relation.grid) firsts
   pub tile : IsOpenedTile all.plan.pattern firsts count (length net.packets) all.tile
   pub found : length all.found.items ≡ nodes net.relation.grid * 64
 
-module _ (net : Setup) (firsts : List First) (count : ℕ) (all : Engine) (of : IsMade net firsts count all) where
+module _ (net : Setup) (firsts : List First) (count : ℕ) (all : Columns) (of : IsMade net firsts count all) where
   abbrev pattern : Pattern
   pattern = all.plan.pattern
 
@@ -205,15 +198,22 @@ module _ (net : Setup) (firsts : List First) (count : ℕ) (all : Engine) (of : 
   shows-at : ShowsAt net 0 words all
   shows-at = record {
     good = of.good;
+    made = of.made;
     tile = shows-tile;
     first = of.tile.first;
     blocks_are = of.tile.blocks.many ∙ of.count_is;
     found_are = of.found;
   }
 
-pub opens-at : (net : Setup) (firsts : List First) (count : ℕ) (all : Engine) → IsMade net firsts count all → (x : ℕ → Router) × ShowsAt net 0 x all
+pub opens-at : (net : Setup) (firsts : List First) (count : ℕ) (all : Columns) → IsMade net firsts count all → (x : ℕ → Router) × ShowsAt net 0 x all
 opens-at net firsts count all of = (words net firsts count all of, shows-at net firsts count all of)
 
 -- it is opened with these first packets
 pub same-opened : (pattern : Pattern) (firsts others : List First) (count m n : ℕ) (tile : Tile) → firsts ≡ others → m ≡ n → IsOpenedTile pattern firsts count m tile → IsOpenedTile pattern others count n tile
 same-opened pattern firsts others count m n tile same many opened = subst (λ k. IsOpenedTile pattern others count k tile) many (subst (λ f. IsOpenedTile pattern f count m tile) same opened)
+
+-- what it is made from
+pub same-setup : (r s : Routes) (d e : ℕ) (ps qs : List Packet) → r ≡ s → d ≡ e → ps ≡ qs → (let u : Setup = record { relation = r; depth = d; packets = ps } in u) ≡ record { relation = s; depth = e; packets = qs }
+same-setup r s d e ps qs a b c =
+    ap (λ (x : Routes). (let u : Setup = record { relation = x; depth = d; packets = ps } in u)) a ∙ ap (λ (x : ℕ). (let u : Setup = record { relation = s; depth = x; packets = ps } in u)) b
+    ∙ ap (λ (x : List Packet). (let u : Setup = record { relation = s; depth = e; packets = x } in u)) c

@@ -1,5 +1,5 @@
 -- What is read of a network is what it shows.
-use Rattle.std.proofs.Common.{◌≡◌, ◌≢◌, ℕ, suc, zero, ◌+◌, ◌-◌, ◌*◌, ◌/◌, ◌%◌, ◌<◌, ◌≤◌, Bool, List, drop, length, take, Option, None, Some, get_or, refl, ap, ap₂, sym, ◌∙◌, subst, arith}
+use Rattle.std.proofs.Common.{◌≡◌, ◌≢◌, ℕ, suc, zero, [], ◌+◌, ◌-◌, ◌*◌, ◌/◌, ◌%◌, ◌<◌, ◌≤◌, Bool, List, drop, length, take, Option, None, Some, get_or, refl, ap, ap₂, sym, ◌∙◌, subst, arith}
 use Rattle.std.specs.Prelude.{slice_get, slice_index, slice_index_or, if◌then◌else◌}
 use Rattle.std.proofs.lemmas.Bool.{eq-eqb, ne_eqb}
 use Rattle.std.proofs.lemmas.List.{ext_get_or, get_or-drop, get_or-take, length-drop, length-take-le}
@@ -27,7 +27,7 @@ use Rattle.noc_theory.specs.Progress.{last_event_before}
 use Rattle.noc_theory_bits.proofs.bits.NetworkLemmas.{counts-read}
 use Rattle.noc_engine.specs.Runs.{AreFindings}
 use Rattle.noc_engine.specs.Shows.{ShowsAt, arrival_by, words_in}
-use Rattle.noc_engine.specs.declared.engine.Engine.{Engine}
+use Rattle.noc_engine.specs.declared.columns.Columns.{Columns}
 use Rattle.noc_engine.proofs.ListLemmas.{there}
 use Rattle.noc_engine.proofs.WholeLemmas.{in-block, network-shown, plan-fits}
 
@@ -66,7 +66,7 @@ found-size net zero r some = absurd (omega (arith, some))
 found-size net (suc n) r some = length-tabulate (size net) _
 
 -- ---- of a network
-module _ (net : Setup) (n : ℕ) (words : ℕ → Router) (all : Engine) (shows : ShowsAt net n words all) where
+module _ (net : Setup) (n : ℕ) (words : ℕ → Router) (all : Columns) (shows : ShowsAt net n words all) where
   -- how many channels a router has
   pub sizes : size net ≡ (all.plan.pattern.table.ports.links.width + 1) * all.plan.pattern.table.ports.links.vcs
   sizes = ap₂ (λ p v. p * v) (plan-fits net all.plan shows.good shows.tile.plan_is).ports.count (plan-fits net all.plan shows.good shows.tile.plan_is).ports.vcs
@@ -151,7 +151,10 @@ module _ (net : Setup) (n : ℕ) (words : ℕ → Router) (all : Engine) (shows 
       let long = shows.found_are in
       (omega (arith, all_few, few, same), omega (arith, all_few, few, same, long, l))
 
-  -- what it has found
+  -- what it has found: nothing before the first cycle
+  pub found-none : (r : ℕ) → all.tile.cycle ≡ 0 → [] ≡ findings_before net n r
+  found-none r none = ap (λ m. findings_before net m r) (sym none ∙ shows.tile.cycle)
+
   pub found-read : (r : ℕ) (found : List Finding) → AreFindings net all → r < nodes net.relation.grid → all.tile.cycle ≢ 0 → found ≡ all.found.items
       → take (r * 64 + (all.plan.pattern.table.ports.links.width + 1) * all.plan.pattern.table.ports.links.vcs - r * 64) (drop (r * 64) found) ≡ findings_before net n r
   found-read r found findings l some is =

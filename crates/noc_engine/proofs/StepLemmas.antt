@@ -22,13 +22,13 @@ use Rattle.noc_engine.specs.Runs.{AreFindings}
 use Rattle.noc_engine.specs.Shows.{has_block}
 use Rattle.noc_engine.specs.Steps.{MayStep}
 use Rattle.noc_engine.specs.Tiles.{AreNear, HasRunTile, HasTurnedTile, MayRunTile}
-use Rattle.noc_engine.specs.declared.engine.Engine.{Engine}
+use Rattle.noc_engine.specs.declared.columns.Columns.{Columns}
 use Rattle.noc_engine.specs.declared.tile.Tile.{Tile}
 use Rattle.noc_engine.proofs.ListLemmas.{there}
 use Rattle.noc_engine.proofs.ReaderLemmas.{sizes}
 use Rattle.noc_engine.proofs.WholeLemmas.{block-is, is-block, network-shown, plan-fits}
 
-module _ (net : Setup) (relation : Routes) (n : ℕ) (words : ℕ → Router) (all : Engine) (may : MayStep net relation n words all) where
+module _ (net : Setup) (relation : Routes) (n : ℕ) (words : ℕ → Router) (all : Columns) (may : MayStep net relation n words all) where
   pub may-turn : MayRunTile net relation all.plan n words all.tile
   may-turn = record { good = may.shows.good; is = may.is; few = may.few; shows = may.shows.tile }
 
@@ -77,7 +77,7 @@ module _ (net : Setup) (relation : Routes) (n : ℕ) (words : ℕ → Router) (a
         ∙ (through net may.shows.good n may.few (layout_of all.plan.pattern) fits.layout_is (all_starts net) s l (words s) ((network-shown net n words all may.shows).routers s l) (turns s) turn).found i u
 
     -- .. where it is noted of all
-    pub found-are : (after : Engine) (routers : ℕ) → nodes net.relation.grid ≤ routers → after.tile.cycle ≡ n + 1
+    pub found-are : (after : Columns) (routers : ℕ) → nodes net.relation.grid ≤ routers → after.tile.cycle ≡ n + 1
         → ((s : ℕ) (block : Block) (work : Work) → s < routers → slice_get turned.blocks.items (s / 64) ≡ Some block → slice_get turned.works.items (s / 64) ≡ Some work
         → HaveFindings (found_at all.plan.pattern block work (s % 64)) ((all.plan.pattern.table.ports.links.width + 1) * all.plan.pattern.table.ports.links.vcs) (s * 64) after.found.items)
         → AreFindings net after

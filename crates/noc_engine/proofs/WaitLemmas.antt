@@ -30,7 +30,7 @@ use Rattle.noc_theory_cycles.specs.Fits.{bits_of}
 use Rattle.noc_theory_cycles.proofs.CountedLemmas.{counted-blank, counted-held}
 use Rattle.noc_engine.specs.Runs.{HasJustRun, HasRepeated, IsNextDue, ShowsRun}
 use Rattle.noc_engine.specs.Shows.{ShowsAt, ShowsBlock, ShowsTile, has_router, words_in}
-use Rattle.noc_engine.specs.declared.engine.Engine.{Engine}
+use Rattle.noc_engine.specs.declared.columns.Columns.{Columns}
 use Rattle.noc_engine.specs.declared.plan.Plan.{Plan}
 use Rattle.noc_engine.specs.declared.tile.Tile.{Tile}
 use Rattle.noc_engine.proofs.ListLemmas.{block-of, place-of, there}
@@ -48,13 +48,13 @@ counted_or ports None r i = no_counts
 counted_or ports (Some c) r i = let counts = word_counts c ((channels_of ports).index i) r in record counts { granted = counts.routed }
 
 -- no channel was counted more often than there were cycles
-module _ (net : Setup) (n : ℕ) (words : ℕ → Router) (all : Engine) (shows : ShowsAt net n words all) where
+module _ (net : Setup) (n : ℕ) (words : ℕ → Router) (all : Columns) (shows : ShowsAt net n words all) where
   counted-few : (r i : ℕ) → r < nodes net.relation.grid → i < size net → sum (nine_counts ((words r).counts i)) ≤ n
   unfolding view_at view_in
   counted-few r i l u = (((network-shown net n words all shows).routers r l).counts i u).1
 
 -- ---- the cycle is repeated
-module _ (net : Setup) (n most : ℕ) (is : Engine) (just : HasJustRun net n most is) where
+module _ (net : Setup) (n most : ℕ) (is : Columns) (just : HasJustRun net n most is) where
   abbrev pattern : Pattern
   pattern = is.plan.pattern
 
@@ -91,8 +91,8 @@ module _ (net : Setup) (n most : ℕ) (is : Engine) (just : HasJustRun net n mos
   after = subst (λ m. ShowsNetwork (bits_of pattern) net m (words_in just.next is.tile)) (add-one n) (network-shown net (n + 1) just.next is shows-is)
 
   -- where no cycle follows
-  pub none-follow : ShowsRun net (n + 1 + 0) is
-  none-follow = (just.next, subst (λ m. ShowsAt net m just.next is) (omega arith) shows-is)
+  pub none-follow : ShowsRun net (is.tile.cycle + 0) is
+  none-follow = (just.next, subst (λ m. ShowsAt net m just.next is) (let cycle = shows-is.tile.cycle in omega (arith, cycle)) shows-is)
 
   -- where so many follow
   module _ (times next : ℕ) (few : times ≤ most) (quiet : is.tile.last ≢ is.tile.cycle) (is_next : IsNextDue is.tile.blocks.items next) (until : times ≤ next - is.tile.cycle)
@@ -101,7 +101,7 @@ module _ (net : Setup) (n most : ℕ) (is : Engine) (just : HasJustRun net n mos
     abbrev pub waited : Tile
     waited = record is.tile { counts = counts; cycle = is.tile.cycle + times }
 
-    abbrev pub later : Engine
+    abbrev pub later : Columns
     later = record is { tile = waited }
 
     -- what was counted of a router by then
@@ -252,12 +252,13 @@ module _ (net : Setup) (n most : ℕ) (is : Engine) (just : HasJustRun net n mos
           shows = network-own net shows-is.good (has_router waited) (n + 1 + times) (words_in words_then waited) shows-later;
         }
 
-    pub waits : ShowsRun net (n + 1 + times) later
+    pub waits : ShowsRun net (is.tile.cycle + times) later
     waits = (
       words_then,
       record {
         good = shows-is.good;
-        tile = tile-later;
+        made = shows-is.made;
+        tile = subst (λ m. ShowsTile net is.plan (m + times) words_then waited) (sym shows-is.tile.cycle) tile-later;
         first = shows-is.first;
         blocks_are = shows-is.blocks_are;
         found_are = shows-is.found_are;

@@ -10,9 +10,11 @@ use Rattle.noc_theory_bits.specs.Network.{ShowsNetwork, ShowsOwn, Words}
 use Rattle.noc_theory_bits.proofs.bits.NetworkLemmas.{own-network}
 use Rattle.noc_theory_cycles.specs.Fits.{FitsNetwork, bits_of, layout_of}
 use Rattle.noc_theory_cycles.proofs.LayoutLemmas.{fits-network}
+use Rattle.noc_engine.specs.Origins.{net_in}
 use Rattle.noc_engine.specs.Shows.{IsPlanOf, ShowsAt, ShowsTile, has_block, has_router, words_in}
 use Rattle.noc_engine.specs.Steps.{HasStepped}
-use Rattle.noc_engine.specs.declared.engine.Engine.{Engine}
+use Rattle.noc_engine.specs.declared.columns.Columns.{Columns}
+use Rattle.noc_engine.specs.declared.origin.Origin.{Origin}
 use Rattle.noc_engine.specs.declared.plan.Plan.{Plan}
 use Rattle.noc_engine.specs.declared.tile.Tile.{Tile}
 
@@ -42,7 +44,7 @@ own-fewer count net own some n w among shows = record {
 }
 
 -- ---- those of a network are all
-module _ (net : Setup) (n : ℕ) (words : ℕ → Router) (all : Engine) (shows : ShowsAt net n words all) where
+module _ (net : Setup) (n : ℕ) (words : ℕ → Router) (all : Columns) (shows : ShowsAt net n words all) where
   pub number-is : (b : ℕ) → all.tile.first + b ≡ b
   number-is b = let first = shows.first in omega (arith, first)
 
@@ -68,9 +70,10 @@ module _ (net : Setup) (n : ℕ) (words : ℕ → Router) (all : Engine) (shows 
       })
 
 -- ---- after a cycle
-pub next-shown : (net : Setup) (n : ℕ) (words next : ℕ → Router) (old new : Engine) → ShowsAt net n words old → HasStepped net n words next old new → ShowsAt net (n + 1) next new
+pub next-shown : (net : Setup) (n : ℕ) (words next : ℕ → Router) (old new : Columns) → ShowsAt net n words old → HasStepped net n words next old new → ShowsAt net (n + 1) next new
 next-shown net n words next old new shows has = record {
   good = shows.good;
+  made = ap (λ (o : Origin). net_in o) has.origin_stays ∙ shows.made;
   tile = subst (λ (p : Plan). ShowsTile net p (n + 1) next new.tile) (sym has.plan_stays) has.tile.shows;
   first = has.tile.first_is ∙ shows.first;
   blocks_are = has.tile.blocks_are ∙ shows.blocks_are ∙ ap (λ (p : Plan). length p.around.items) (sym has.plan_stays);

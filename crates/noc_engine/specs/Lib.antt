@@ -1,3 +1,4 @@
+pub mod Origins
 pub mod Shows
 pub mod Turns
 pub mod Passes
@@ -6,4 +7,5 @@ pub mod Opened
 pub mod Runs
 pub mod Finds
 pub mod Tiles
+pub mod Inside
 pub mod Prelude

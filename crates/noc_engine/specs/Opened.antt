@@ -1,8 +1,5 @@
 -- A network before its first cycle.
 use Rattle.std.specs.Prelude.{◌≡◌, ℕ, List, length, replicate}
-use Rattle.noc_packet.specs.declared.packet.Packet.{Packet}
-use Rattle.noc_route.specs.Routes.{Routes}
-use Rattle.noc_theory.specs.Network.{Setup}
 use Rattle.noc_columns.specs.declared.due.TheConstants.{NEVER}
 use Rattle.noc_counts.specs.Counts.{AreClear}
 use Rattle.noc_cycles.specs.Opened.{AreEmptyWorks, AreOpened}
@@ -10,13 +7,6 @@ use Rattle.noc_cycles.specs.Told.{HaveRoom}
 use Rattle.noc_cycles.specs.declared.first.First.{First}
 use Rattle.noc_cycles.specs.declared.pattern.Pattern.{Pattern}
 use Rattle.noc_engine.specs.declared.tile.Tile.{Tile}
-
--- what it is made from, and nothing else
-pub record IsMadeFrom (relation : Routes) (places : ℕ) (packets : List Packet) (net : Setup)
-    : Type 0 where
-  pub relation_is : net.relation ≡ relation
-  pub depth_is : net.depth ≡ places
-  pub packets_are : net.packets ≡ packets
 
 -- a tile of all its blocks, so many, of a network of so many packets, in which each router is at its
 -- first packet

@@ -12,6 +12,7 @@ pub use Rattle.noc_theory.specs.Good.{IsGoodSetup}
 pub use Rattle.noc_theory.specs.Lockstep.{counts_before, findings_before}
 pub use Rattle.noc_theory.specs.Network.{Setup, arrival_in, state_at}
 pub use Rattle.noc_theory.specs.Progress.{last_event_before}
+pub use Rattle.noc_theory.specs.declared.limits.TheConstants.{CYCLE_LIMIT}
 pub use Rattle.noc_theory_bits.specs.Starts.{starts_list}
 pub use Rattle.noc_columns.specs.Heads.{packet_in}
 pub use Rattle.noc_columns.specs.Picks.{channels_of}
@@ -27,11 +28,12 @@ pub use Rattle.noc_cycles.specs.declared.pattern.Pattern.{Pattern}
 pub use Rattle.noc_counts.specs.declared.counts.Counts.{Counts}
 pub use Rattle.noc_queues.specs.Queues.{AreByNode, IsKept}
 pub use Rattle.noc_engine.specs.Finds.{HaveFindings, found_at}
-pub use Rattle.noc_engine.specs.Opened.{IsMadeFrom, IsOpenedTile}
+pub use Rattle.noc_engine.specs.Opened.{IsOpenedTile}
+pub use Rattle.noc_engine.specs.Origins.{net_in, setup_by}
 pub use Rattle.noc_engine.specs.Passes.{AreAllNotes, HasCounted, HaveGathered, HaveTurned, MayTurnAll, TellAll, TellLeaving, arrived_of, packets_of}
 pub use Rattle.noc_engine.specs.Runs.{AreFindings, HasJustRun, HasRepeated, IsNextDue, MayRun, ShowsRun}
 pub use Rattle.noc_engine.specs.Shows.{IsPlanOf, ShowsAt, has_block}
-pub use Rattle.noc_engine.specs.Steps.{MayStep}
+pub use Rattle.noc_engine.specs.Steps.{HasRunCycle}
 pub use Rattle.noc_engine.specs.Tiles.{AreNear, HasBehind, HasRunTile, HasStepped, HasTurnedTile, IsCut, IsJoined, IsTold, MayRunTile, Shows}
 pub use Rattle.noc_engine.specs.Turns.{HasTurnedBlock, MayTurn, happens_in}
 pub use Rattle.noc_engine.specs.declared.plan.Plan.{Plan}

@@ -6,7 +6,6 @@ use Rattle.noc_route.specs.Routes.{Routes}
 use Rattle.noc_view.specs.Found.{empty_finding, finding_at}
 use Rattle.noc_sets.specs.Counts.{ByVerdict, nine_counts}
 use Rattle.noc_sets.specs.Cycle.{Router}
-use Rattle.noc_theory.specs.Good.{IsGoodSetup}
 use Rattle.noc_theory.specs.Lockstep.{findings_before}
 use Rattle.noc_theory.specs.Network.{Setup, size}
 use Rattle.noc_theory.specs.declared.limits.TheConstants.{CYCLE_LIMIT}
@@ -17,27 +16,27 @@ use Rattle.noc_counts.specs.Counts.{HasHad, counted_in, last_at, with_delays}
 use Rattle.noc_counts.specs.declared.counts.Counts.{Counts}
 use Rattle.noc_cycles.specs.declared.block.Block.{Block}
 use Rattle.noc_cycles.specs.declared.pattern.Pattern.{Pattern}
+use Rattle.noc_engine.specs.Origins.{net_in}
 use Rattle.noc_engine.specs.Shows.{ShowsAt}
 use Rattle.noc_engine.specs.Steps.{HasStepped, MayStep}
-use Rattle.noc_engine.specs.declared.engine.Engine.{Engine}
+use Rattle.noc_engine.specs.declared.columns.Columns.{Columns}
 
--- it shows another one at count n
-abbrev pub ShowsRun : Setup → ℕ → Engine → Type 0
+-- columns show the network that they were made of at count n
+abbrev pub ShowsRun : Setup → ℕ → Columns → Type 0
 ShowsRun net n all = (words : ℕ → Router) × ShowsAt net n words all
 
--- it may run so many cycles more, by this relation
-pub record MayRun (relation : Routes) (net : Setup) (n cycles : ℕ) (all : Engine) : Type 0 where
-  pub good : IsGoodSetup net
-  pub is : net.relation ≡ relation
-  pub within : n + cycles ≤ CYCLE_LIMIT
-  pub shows : ShowsRun net n all
+-- they show it at their own count, and may run so many cycles more, by this relation
+pub record MayRun (relation : Routes) (cycles : ℕ) (all : Columns) : Type 0 where
+  pub is : (net_in all.origin).relation ≡ relation
+  pub within : all.tile.cycle + cycles ≤ CYCLE_LIMIT
+  pub shows : ShowsRun (net_in all.origin) all.tile.cycle all
 
 -- it has just run cycle n, and may run so many more
-pub record HasJustRun (net : Setup) (n most : ℕ) (all : Engine) : Type 0 where
+pub record HasJustRun (net : Setup) (n most : ℕ) (all : Columns) : Type 0 where
   pub relation : Routes
   pub words : ℕ → Router
   pub next : ℕ → Router
-  pub was : Engine
+  pub was : Columns
   pub may : MayStep net relation n words was
   pub stepped : HasStepped net n words next was all
   pub within : n + 1 + most ≤ CYCLE_LIMIT
@@ -61,7 +60,7 @@ pub record IsNextDue (blocks : List Block) (next : ℕ) : Type 0 where
       × (next ≡ block.sources.due.next))
 
 -- it has what the routers have found in the last cycle that has run
-pub record AreFindings (net : Setup) (all : Engine) : Type 0 where
+pub record AreFindings (net : Setup) (all : Columns) : Type 0 where
   pub each : (r i : ℕ) → r < nodes net.relation.grid → i < size net → 0 < all.tile.cycle
       → finding_at all.found.items (r * CHANNELS + i)
       ≡ slice_index_or (findings_before net all.tile.cycle r) i empty_finding

@@ -27,7 +27,8 @@ use Rattle.noc_cycles.specs.declared.block.Block.{Block}
 use Rattle.noc_cycles.specs.declared.block.Work.{Work}
 use Rattle.noc_theory_cycles.specs.Fits.{bits_of}
 use Rattle.noc_theory_cycles.specs.Nodes.{ShowsNode}
-use Rattle.noc_engine.specs.declared.engine.Engine.{Engine}
+use Rattle.noc_engine.specs.Origins.{net_in}
+use Rattle.noc_engine.specs.declared.columns.Columns.{Columns}
 use Rattle.noc_engine.specs.declared.plan.Plan.{Plan}
 use Rattle.noc_engine.specs.declared.tile.Tile.{Tile}
 
@@ -105,9 +106,11 @@ pub record ShowsTile (net : Setup) (plan : Plan) (n : ℕ) (words : ℕ → Rout
       → ShowsBlock net plan n (tile.first + b) words block work.came counts
   pub shows : ShowsOwn (bits_of plan.pattern) net (has_router tile) n (words_in words tile)
 
--- a network shows another one at count n, by these words of its routers: its tile has all blocks
-pub record ShowsAt (net : Setup) (n : ℕ) (words : ℕ → Router) (all : Engine) : Type 0 where
+-- columns show the network that they were made of at count n, by these words of its routers: their
+-- tile has all blocks
+pub record ShowsAt (net : Setup) (n : ℕ) (words : ℕ → Router) (all : Columns) : Type 0 where
   pub good : IsGoodSetup net
+  pub made : net_in all.origin ≡ net
   pub tile : ShowsTile net all.plan n words all.tile
   pub first : all.tile.first ≡ 0
   pub blocks_are : length all.tile.blocks.items ≡ length all.plan.around.items

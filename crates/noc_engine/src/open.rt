@@ -1,10 +1,11 @@
 //! A network by blocks before its first cycle.
 
 ghost use Rattle.std.specs.Prelude.{◌≡◌, ◌*◌, ◌≤◌, ◌<◌, ◌^◌, ℕ, All, IfOk, length, map};
-ghost use Rattle.noc_engine.specs.Prelude.{AreByNode, IsGoodSetup, IsKept, IsMadeFrom, IsOpenedTile, IsPlanOf, IsWithinLimits, MAX_BUFFER, MAX_NODES, MAX_PACKETS, Router, Setup, ShowsAt, header_of, nodes, starts_by, starts_list, starts_of};
+ghost use Rattle.noc_engine.specs.Prelude.{AreByNode, IsGoodSetup, IsKept, IsOpenedTile, IsPlanOf, IsWithinLimits, MAX_BUFFER, MAX_NODES, ShowsRun, header_of, nodes, setup_by, starts_by, starts_list, starts_of};
 
-use crate::engine::Engine;
+use crate::columns::Columns;
 use crate::exchange::nothing_left;
+use crate::origin::{Origin, Setup};
 use crate::plan::Plan;
 use crate::tile::Tile;
 use noc_columns::{CHANNELS, Header, NEVER, ROUTERS, Start};
@@ -12,30 +13,27 @@ use noc_counts::no_counts;
 use noc_cycles::{First, Pattern, all_around, empty_works, open_blocks, room_for_notes};
 use noc_packet::{Memory, Packet};
 use noc_queues::all_starts;
-use noc_route::Relation;
 use noc_view::Finding;
 use std::alloc::Global;
 
-impl Engine {
-    /// The network of a relation, `places` (1 to 16 flits) in each buffer and these packets, before
-    /// its first cycle. `queues` has the packets of each node by due time.
-    pub fn new(
+impl Columns {
+    // The network of a setup before its first cycle. `queues` has the packets of each node by due
+    // time.
+    pub(crate) fn new(
         alloc: Global,
-        relation: &Relation,
-        places: usize,
-        packets: &[Packet],
+        setup: &Setup<'_>,
         queues: &[Vec<(u32, Packet)>],
-    ) -> Result<Engine, Memory>
-        requires places { places ≤ MAX_BUFFER }
-        requires few { length packets.now ≤ MAX_PACKETS }
-        requires limits { All IsWithinLimits packets.now }
-        requires kept { All IsKept packets.now }
-        requires queues { AreByNode (starts_of packets.now) (nodes relation.now.grid) queues.now }
-        ensures { IfOk result (λ made. (net : Setup)
-            → IsMadeFrom relation.now places packets.now net → IsGoodSetup net
-            → (words : ℕ → Router) × ShowsAt net 0 words made) }
+    ) -> Result<Columns, Memory>
+        requires good { IsGoodSetup (setup_by setup.now) }
+        requires depth { setup.now.depth ≤ MAX_BUFFER }
+        requires limits { All IsWithinLimits setup.now.packets.now.items }
+        requires kept { All IsKept setup.now.packets.now.items }
+        requires queues { AreByNode (starts_of setup.now.packets.now.items)
+            (nodes setup.now.relation.now.grid) queues.now }
+        ensures { IfOk result (ShowsRun (setup_by setup.now) 0) }
     {
-        let nodes = relation.shape().nodes();
+        let packets = setup.packets.as_slice();
+        let nodes = setup.relation.shape().nodes();
         let count = nodes.div_ceil(ROUTERS);
         let Ok(found) = vec![in alloc; Finding::EMPTY; nodes * CHANNELS] else {
             return Err(Memory);
@@ -43,13 +41,18 @@ impl Engine {
         let Ok(starts) = all_starts(alloc, packets, queues) else {
             return Err(Memory);
         };
-        let Ok(plan) = plan_of(alloc, relation, places, packets, starts.list) else {
+        let Ok(plan) = plan_of(alloc, setup, starts.list) else {
             return Err(Memory);
         };
         let Ok(tile) = all_blocks(alloc, &plan.pattern, &starts.firsts, count, packets.len()) else {
             return Err(Memory);
         };
-        Ok(Engine { plan, tile, found })
+        Ok(Columns {
+            origin: Origin::of(setup),
+            plan,
+            tile,
+            found,
+        })
     }
 }
 
@@ -96,32 +99,26 @@ fn all_blocks(
 }
 
 // What stays as it is, where these packets start.
-fn plan_of(
-    alloc: Global,
-    relation: &Relation,
-    places: usize,
-    packets: &[Packet],
-    starts: Vec<Start>,
-) -> Result<Plan, Memory>
-    requires places { places ≤ MAX_BUFFER }
-    requires limits { All IsWithinLimits packets.now }
+fn plan_of(alloc: Global, setup: &Setup<'_>, starts: Vec<Start>) -> Result<Plan, Memory>
+    requires good { IsGoodSetup (setup_by setup.now) }
+    requires depth { setup.now.depth ≤ MAX_BUFFER }
+    requires limits { All IsWithinLimits setup.now.packets.now.items }
     requires starts { starts_by starts.items
-        ≡ starts_list packets.now (nodes relation.now.grid) }
+        ≡ starts_list setup.now.packets.now.items (nodes setup.now.relation.now.grid) }
     requires short { length starts.items < 2 ^ 32 }
-    ensures { IfOk result (λ plan. (net : Setup)
-        → IsMadeFrom relation.now places packets.now net → IsGoodSetup net → IsPlanOf net plan) }
+    ensures { IfOk result (IsPlanOf (setup_by setup.now)) }
 {
-    let shape = relation.shape();
-    let vcs = relation.vcs();
+    let shape = setup.relation.shape();
+    let vcs = setup.relation.vcs();
     let count = shape.nodes().div_ceil(ROUTERS);
     let Ok(around) = all_around(alloc, shape, vcs, count) else {
         return Err(Memory);
     };
-    let Ok(headers) = all_headers(alloc, packets) else {
+    let Ok(headers) = all_headers(alloc, setup.packets) else {
         return Err(Memory);
     };
     Ok(Plan {
-        pattern: Pattern::of(shape, vcs, places),
+        pattern: Pattern::of(shape, vcs, setup.depth),
         around,
         starts,
         headers,

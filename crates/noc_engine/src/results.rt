@@ -1,7 +1,7 @@
 //! What is read of a network.
 
-ghost use Rattle.std.specs.Prelude.{◌≡◌, ℕ, ◌+◌, ◌*◌, ◌<◌, length};
-ghost use Rattle.noc_engine.specs.Prelude.{AreFindings, IsGoodSetup, Setup, ShowsRun, arrival_in, counts_before, findings_before, last_event_before, nodes, ports, state_at};
+ghost use Rattle.std.specs.Prelude.{◌≡◌, ◌+◌, ◌*◌, ◌<◌, length};
+ghost use Rattle.noc_engine.specs.Prelude.{arrival_in, counts_before, findings_before, last_event_before, nodes, ports, state_at};
 
 use crate::engine::Engine;
 use noc_columns::{CHANNELS, NEVER, ROUTERS};
@@ -10,12 +10,10 @@ use noc_view::{Finding, VERDICTS};
 impl Engine {
     /// The cycle in which the tail of a packet was out.
     pub fn arrival(&self, packet: usize) -> Option<u64>
-        requires { (net : Setup) × (n : ℕ) × ShowsRun net n self.now
-            × (packet < length net.packets) }
-        ensures { (net : Setup) (n : ℕ) → ShowsRun net n self.now
-            → packet < length net.packets → result ≡ arrival_in net (state_at net n) packet }
+        requires { packet < length self.now.net.packets }
+        ensures { result ≡ arrival_in self.now.net (state_at self.now.net self.now.count) packet }
     {
-        let cycle = self.tile.arrivals[packet];
+        let cycle = self.columns.tile.arrivals[packet];
         if cycle == NEVER {
             None
         } else {
@@ -25,48 +23,45 @@ impl Engine {
 
     /// How often an input channel of a router had each verdict, in the order of the stall report.
     pub fn counts(&self, router: usize, port: usize, vc: usize) -> [u64; VERDICTS]
-        requires { (net : Setup) × (n : ℕ) × ShowsRun net n self.now
-            × (router < nodes net.relation.grid) × (port < ports net.relation.grid)
-            × (vc < net.relation.vcs) }
-        ensures { (net : Setup) (n : ℕ) → ShowsRun net n self.now
-            → router < nodes net.relation.grid → port < ports net.relation.grid
-            → vc < net.relation.vcs
-            → result ≡ counts_before net n router (port * net.relation.vcs + vc) }
+        requires router { router < nodes self.now.net.relation.grid }
+        requires port { port < ports self.now.net.relation.grid }
+        requires vc { vc < self.now.net.relation.vcs }
+        ensures { result ≡ counts_before self.now.net self.now.count router
+            (port * self.now.net.relation.vcs + vc) }
     {
-        let table = &self.plan.pattern.table;
+        let tile = &self.columns.tile;
+        let table = &self.columns.plan.pattern.table;
         let channel = port * table.ports.links.vcs + vc;
         let number = router / ROUTERS;
-        let block = &self.tile.blocks[number];
-        let counts = &self.tile.counts[number];
-        counts.counts_of(table, block, router % ROUTERS, channel, self.tile.cycle)
+        let block = &tile.blocks[number];
+        let counts = &tile.counts[number];
+        counts.counts_of(table, block, router % ROUTERS, channel, tile.cycle)
     }
 
     /// What a router has found in the last cycle, of each input channel, by port and virtual
     /// channel: nothing before the first.
     pub fn findings(&self, router: usize) -> &[Finding]
-        requires { (net : Setup) × (n : ℕ) × ShowsRun net n self.now
-            × (router < nodes net.relation.grid) }
-        ensures { (net : Setup) (n : ℕ) → ShowsRun net n self.now → AreFindings net self.now
-            → router < nodes net.relation.grid → result.now ≡ findings_before net n router }
+        requires { router < nodes self.now.net.relation.grid }
+        ensures { result.now ≡ findings_before self.now.net self.now.count router }
     {
-        if self.tile.cycle == 0 {
+        if self.columns.tile.cycle == 0 {
             return &[];
         }
-        let links = &self.plan.pattern.table.ports.links;
+        let links = &self.columns.plan.pattern.table.ports.links;
         let channels = (links.width + 1) * links.vcs;
         let first = router * CHANNELS;
-        &self.found[first..first + channels]
+        &self.columns.found[first..first + channels]
     }
 
     /// The last cycle in which something happened.
     pub fn last_event(&self) -> Option<u64>
-        ensures { (net : Setup) (n : ℕ) → IsGoodSetup net → ShowsRun net n self.now
-            → result ≡ last_event_before net n }
+        ensures { result ≡ last_event_before self.now.net self.now.count }
     {
-        if self.tile.last == 0 {
+        let last = self.columns.tile.last;
+        if last == 0 {
             None
         } else {
-            Some(u64::from(self.tile.last - 1))
+            Some(u64::from(last - 1))
         }
     }
 }

@@ -1,22 +1,21 @@
 //! Time that jumps over cycles that are like the one before them.
 
 ghost use Rattle.std.specs.Prelude.{◌≡◌, ◌≢◌, ℕ, ◌+◌, ◌-◌, ◌≤◌, Some, min, slice_get};
-ghost use Rattle.noc_engine.specs.Prelude.{Counts, HasJustRun, HasRepeated, IsNextDue, Setup, ShowsRun};
+ghost use Rattle.noc_engine.specs.Prelude.{Counts, HasJustRun, HasRepeated, IsNextDue, ShowsRun, net_in};
 
-use crate::engine::Engine;
+use crate::columns::Columns;
 use crate::plan::Plan;
 use noc_columns::NEVER;
 use noc_counts::Counts;
 use noc_cycles::Block;
 
-impl Engine {
+impl Columns {
     // Runs the cycles after the last one that are like it, at most so many, where nothing happened
     // in it. The answer is how many these are.
     pub(crate) fn wait(&mut self, most: u32) -> u32
-        requires { (net : Setup) × (n : ℕ) × HasJustRun net n most self.old }
+        requires { (n : ℕ) × HasJustRun (net_in self.old.origin) n most self.old }
         ensures within { result ≤ most }
-        ensures shows { (net : Setup) (n : ℕ) → HasJustRun net n most self.old
-            → ShowsRun net (n + 1 + result) self.new }
+        ensures shows { ShowsRun (net_in self.old.origin) (self.old.tile.cycle + result) self.new }
         ensures jumps { self.old.tile.last ≢ self.old.tile.cycle → (next : ℕ)
             × IsNextDue self.old.tile.blocks.items next
             × (result ≡ min (next - self.old.tile.cycle) most) }

@@ -19,7 +19,7 @@ use crate::limit::{MAX_LIMIT, budget, last_due};
 use crate::net_fault::NetFault;
 use crate::packets::first_fault;
 use crate::parts::Parts;
-use noc_engine::Engine;
+use noc_engine::{Engine, Setup};
 use noc_packet::{Beat, MAX_BUFFER, MAX_PACKETS, Memory, Packet};
 use noc_queues::{ends_by_node, starts_by_node};
 use noc_route::Relation;
@@ -28,7 +28,7 @@ use noc_theory::CYCLE_LIMIT;
 use noc_times::{Interval, latency, was_quiet};
 use noc_topo::LINKS;
 use noc_wires::Room;
-use noc_workers::{NotRun, Setup, run_by};
+use noc_workers::{NotRun, run_by};
 use std::alloc::Global;
 use std::marker::Model;
 use std::mem;
@@ -91,7 +91,12 @@ impl Network {
         }
         let nodes = relation.shape().nodes();
         let starts = starts_by_node(alloc, nodes, &packets)?;
-        let engine = Engine::new(alloc, &relation, depth, &packets, &starts)?;
+        let setup = Setup {
+            relation: &relation,
+            depth,
+            packets: &packets,
+        };
+        let engine = Engine::new(alloc, &setup, &starts)?;
         let Equipment {
             routers,
             plan,

@@ -1,18 +1,16 @@
 -- A network runs by workers, stretch by stretch.
-use Rattle.std.proofs.Common.{◌≡◌, ℕ, ◌+◌, ◌<◌, ◌≤◌, true, List, [], ◌∷◌, Some, length, ap, subst, arith}
+use Rattle.std.proofs.Common.{◌≡◌, ℕ, ◌+◌, ◌<◌, ◌≤◌, true, List, [], ◌∷◌, Some, length, subst, arith}
 use Rattle.std.specs.List.{slice_get}
 use Rattle.noc_topo.proofs.LinkLemmas.{link_back}
-use Rattle.noc_route.specs.Routes.{Routes}
 use Rattle.noc_theory.specs.Good.{IsGoodSetup}
 use Rattle.noc_theory.specs.Network.{Setup}
 use Rattle.noc_theory.specs.declared.limits.TheConstants.{CYCLE_LIMIT}
 use Rattle.noc_workers.specs.Cuts.{AllHaveRun, AllMayRun, AllShow, AreNew, IsNew}
 use Rattle.noc_workers.specs.Rounds.{Start}
-use Rattle.noc_engine.specs.Runs.{MayRun, ShowsRun}
-use Rattle.noc_engine.specs.Shows.{ShowsTile}
+use Rattle.noc_engine.specs.Runs.{ShowsRun}
 use Rattle.noc_engine.specs.Tiles.{Shows}
 use Rattle.noc_workers.specs.Workers.{IsWorkerAt, MayRunFrom}
-use Rattle.noc_engine.specs.declared.engine.Engine.{Engine}
+use Rattle.noc_engine.specs.declared.columns.Columns.{Columns}
 use Rattle.noc_engine.specs.declared.tile.Tile.{Tile}
 use Rattle.noc_workers.specs.declared.worker.Worker.{Worker}
 use Rattle.noc_workers.proofs.SideLemmas.{side-given, side-map}
@@ -61,17 +59,16 @@ module _ (start : Start) where
 
 -- ---- the network
 -- one tile of all its blocks shows it
-pub joined-shows : (relation : Routes) (net : Setup) (n most cycles : ℕ) (all : Engine) (tile : Tile) → MayRun relation net n most all
-    → (tile.first ≡ 0) × (tile.first + length tile.blocks.items ≡ length all.plan.around.items) × Shows net all.plan (all.tile.cycle + cycles) tile → ShowsRun net (n + cycles) (record all { tile = tile })
-joined-shows relation net n most cycles all tile may is =
-    let was = may.shows.1 in
-    let now = was.tile.cycle in (
-      is.2.0,
-      record {
-        good = may.good;
-        tile = subst (λ m. ShowsTile net all.plan m is.2.0 tile) (ap (λ m. m + cycles) now) is.2.1;
-        first = is.0;
-        blocks_are = omega (arith, is.0, is.1);
-        found_are = was.found_are;
-      },
-    )
+pub joined-shows : (net : Setup) (n cycles : ℕ) (all : Columns) (tile : Tile) → ShowsRun net n all
+    → (tile.first ≡ 0) × (tile.first + length tile.blocks.items ≡ length all.plan.around.items) × Shows net all.plan (n + cycles) tile → ShowsRun net (n + cycles) (record all { tile = tile })
+joined-shows net n cycles all tile shows is = (
+  is.2.0,
+  record {
+    good = shows.1.good;
+    made = shows.1.made;
+    tile = is.2.1;
+    first = is.0;
+    blocks_are = omega (arith, is.0, is.1);
+    found_are = shows.1.found_are;
+  },
+)

@@ -1,55 +1,41 @@
 -- A run in stretches.
-use Rattle.std.proofs.Common.{◌≡◌, ℕ, ◌+◌, ◌-◌, ◌<◌, ◌≤◌, refl, subst, arith}
+use Rattle.std.proofs.Common.{◌≡◌, ℕ, ◌+◌, ◌-◌, ◌<◌, ◌≤◌, subst, arith}
 use Rattle.noc_route.specs.Routes.{Routes}
 use Rattle.noc_theory.specs.Network.{Setup}
-use Rattle.noc_engine.specs.Runs.{MayRun, ShowsRun}
-use Rattle.noc_engine.specs.declared.engine.Engine.{Engine}
+use Rattle.noc_theory.specs.declared.limits.TheConstants.{CYCLE_LIMIT}
+use Rattle.noc_engine.specs.Origins.{net_in}
+use Rattle.noc_engine.specs.Runs.{AreFindings, MayRun, ShowsRun}
+use Rattle.noc_engine.specs.declared.columns.Columns.{Columns}
+use Rattle.noc_engine.proofs.RunLemmas.{found-then, may-run, then-shown}
 
--- it may run fewer cycles
-pub may-fewer : (relation : Routes) (net : Setup) (n most part : ℕ) (all : Engine) → part ≤ most → MayRun relation net n most all → MayRun relation net n part all
-may-fewer relation net n most part all few may = record {
-  good = may.good;
-  is = may.is;
-  within = let within = may.within in omega (arith, few, within);
-  shows = may.shows;
-}
-
--- of so many cycles these are left, of which the last one is to be noted
-pub record IsRunning (relation : Routes) (net : Setup) (cycles left : ℕ) (first now : Engine) : Type 0 where
+-- of so many cycles from a count on these are left, of which the last one is to be noted
+pub record IsRunning (net : Setup) (n cycles left : ℕ) (now : Columns) : Type 0 where
   pub within : left ≤ cycles
-  pub some : 0 < cycles → 0 < left
-  pub may : (n : ℕ) → MayRun relation net n cycles first → MayRun relation net (n + (cycles - left)) left now
-  pub kept : cycles ≡ 0 → now ≡ first
+  pub shows : ShowsRun net (n + (cycles - left)) now
+  pub found : left ≡ 0 → AreFindings net now
 
-module _ (relation : Routes) (net : Setup) (cycles : ℕ) (first : Engine) where
-  pub none-run : IsRunning relation net cycles cycles first first
-  none-run = record {
+module _ (relation : Routes) (net : Setup) (n cycles : ℕ) (is : net.relation ≡ relation) (few : n + cycles ≤ CYCLE_LIMIT) where
+  pub none-run : (first : Columns) → ShowsRun net n first → AreFindings net first → IsRunning net n cycles cycles first
+  none-run first shows found = record {
     within = omega arith;
-    some = λ some. some;
-    may = λ n may. subst (λ m. MayRun relation net m cycles first) (omega arith) may;
-    kept = λ none. refl;
+    shows = subst (λ m. ShowsRun net m first) (omega arith) shows;
+    found = λ none. found;
   }
 
-  module _ (left : ℕ) (now : Engine) (on : IsRunning relation net cycles left first now) where
-    pub may-stretch : (n part : ℕ) → part ≤ left → MayRun relation net n cycles first → MayRun relation net (n + (cycles - left)) part now
-    may-stretch n part few may = may-fewer relation net (n + (cycles - left)) left part now few (on.may n may)
+  module _ (left : ℕ) (now : Columns) (on : IsRunning net n cycles left now) where
+    pub may-stretch : (part : ℕ) → part ≤ left → MayRun relation part now
+    may-stretch part less = may-run net (n + (cycles - left)) now on.shows relation part is (let within = on.within in omega (arith, few, less, within))
 
-    pub some-run : (part : ℕ) (next : Engine) → part < left → ((n : ℕ) → MayRun relation net n (left - 1) now → ShowsRun net (n + part) next) → IsRunning relation net cycles (left - part) first next
-    some-run part next few runs = record {
+    pub some-run : (part : ℕ) (next : Columns) → part < left → ShowsRun net (now.tile.cycle + part) next → IsRunning net n cycles (left - part) next
+    some-run part next less shows = record {
       within = let most = on.within in omega (arith, most);
-      some = λ some. omega (arith, few);
-      may = λ n may.
-          let most = on.within in
-          let was = on.may n may in
-          let limit = was.within in
-          record {
-            good = may.good;
-            is = may.is;
-            within = omega (arith, limit, few, most);
-            shows = subst (λ m. ShowsRun net m next) (omega (arith, few, most)) (runs (n + (cycles - left)) (may-stretch n (left - 1) (omega arith) may));
-          };
-      kept = λ none. absurd (let most = on.within in omega (arith, none, few, most));
+      shows = let most = on.within in let cycle = on.shows.1.tile.cycle in subst (λ m. ShowsRun net m next) (omega (arith, less, most, cycle)) shows;
+      found = λ none. absurd (omega (arith, none, less));
     }
 
-    pub last-run : (n : ℕ) (next : Engine) → ShowsRun net (n + (cycles - left) + left) next → ShowsRun net (n + cycles) next
-    last-run n next shows = subst (λ m. ShowsRun net m next) (let most = on.within in omega (arith, most)) shows
+    pub last-run : (next : Columns) → ShowsRun (net_in now.origin) (now.tile.cycle + left) next → ShowsRun net (n + cycles) next
+    last-run next shows = subst (λ m. ShowsRun net m next) (let most = on.within in omega (arith, most)) (then-shown net (n + (cycles - left)) now on.shows left next shows)
+
+    pub last-found : (next : Columns) → ShowsRun (net_in now.origin) (now.tile.cycle + left) next → (0 < left → AreFindings (net_in now.origin) next) → (left ≡ 0 → next ≡ now) → AreFindings (net_in next.origin) next
+    last-found next shows after kept =
+        found-then net (n + cycles) left now next (last-run next shows) on.found (λ some. subst (λ (m : Setup). AreFindings m next) on.shows.1.made (after some)) kept

@@ -6,16 +6,12 @@ use Rattle.noc_theory.specs.Network.{Setup}
 use Rattle.noc_workers.specs.Mails.{IsMail, blocks_in}
 use Rattle.noc_workers.specs.declared.mail.Mail.{Mail}
 use Rattle.noc_workers.specs.declared.origin.Run.{Run}
-use Rattle.noc_workers.specs.declared.origin.Setup.{Setup as Made}
 use Rattle.noc_engine.specs.declared.plan.Plan.{Plan}
 
 -- the network that is made from this
 abbrev pub setup_of : Routes → ℕ → List Packet → Setup
 setup_of relation depth packets =
     record { relation = relation; depth = depth; packets = packets }
-
-abbrev pub setup_by : Made → Setup
-setup_by made = setup_of made.relation.now made.depth made.packets.now.items
 
 -- a run: of this network, by this plan, from this count on
 pub record Start : Type 0 where

@@ -1,15 +1,15 @@
 //! A network whose blocks run in tiles, each by a worker.
 
 ghost use Rattle.std.specs.Prelude.{◌≡◌, ℕ, ◌+◌, ◌<◌, ◌≤◌, true, length, Some, IfOk, IsTrue, slice_get};
-ghost use Rattle.noc_workers.specs.Prelude.{AllMayRun, AllShow, CYCLE_LIMIT, IsGoodSetup, MayRun, ShowsRun, Worker as One, setup_by, start_by};
+ghost use Rattle.noc_workers.specs.Prelude.{AllMayRun, AllShow, CYCLE_LIMIT, IsGoodSetup, MayRun, ShowsRun, Worker as One, net_in, setup_by, start_by};
 
 use crate::cut::cut;
 use crate::fork::{Stretch, run_all};
 use crate::join::join;
-use crate::origin::{Run, Setup};
+use crate::origin::Run;
 use crate::pace::{Pace, each};
 use crate::worker::Worker;
-use noc_engine::Engine;
+use noc_engine::{Columns, Setup};
 use noc_exchange::NotRun;
 use std::alloc::Global;
 use std::sync::Wait;
@@ -26,7 +26,7 @@ pub(crate) struct Ahead {
 /// A network after so many cycles.
 #[derive(Drop)]
 pub(crate) struct Ran {
-    pub(crate) engine: Engine,
+    pub(crate) columns: Columns,
     pub(crate) cycles: u32,
 }
 
@@ -42,22 +42,26 @@ pub(crate) fn run_apart<R: Threads + Wait + Clock + Sync>(
     rt: &R,
     alloc: Global,
     setup: &Setup<'_>,
-    engine: Engine,
+    columns: Columns,
     ahead: Ahead,
     pace: &mut Pace,
 ) -> Result<Ran, NotRun>
     requires some { 0 < ahead.most }
     requires workers { (0 < ahead.workers)
-        × (ahead.workers ≤ length engine.tile.blocks.items) }
-    requires may { (n : ℕ)
-        × MayRun setup.now.relation.now (setup_by setup.now) n ahead.most engine }
+        × (ahead.workers ≤ length columns.tile.blocks.items) }
+    requires made { net_in columns.origin ≡ setup_by setup.now }
+    requires may { MayRun setup.now.relation.now ahead.most columns }
     ensures some { IfOk result (λ ran. (0 < ran.cycles) × (ran.cycles ≤ ahead.most)) }
-    ensures shows { (n : ℕ)
-        → MayRun setup.now.relation.now (setup_by setup.now) n ahead.most engine
-        → IfOk result (λ ran. ShowsRun (setup_by setup.now) (n + ran.cycles) ran.engine) }
+    ensures shows { IfOk result (λ ran. ShowsRun (setup_by setup.now)
+        (columns.tile.cycle + ran.cycles) ran.columns) }
     ensures workers { pace.new.workers ≡ pace.old.workers }
 {
-    let Engine { plan, tile, found } = engine;
+    let Columns {
+        origin,
+        plan,
+        tile,
+        found,
+    } = columns;
     let run = Run {
         relation: setup.relation,
         depth: setup.depth,
@@ -68,8 +72,13 @@ pub(crate) fn run_apart<R: Threads + Wait + Clock + Sync>(
     let workers = cut(alloc, &run, tile, ahead.workers)?;
     let Worked { workers, cycles } = run_on(rt, &run, workers, ahead.most, pace)?;
     let tile = join(&plan, workers)?;
-    let engine = Engine { plan, tile, found };
-    Ok(Ran { engine, cycles })
+    let columns = Columns {
+        origin,
+        plan,
+        tile,
+        found,
+    };
+    Ok(Ran { columns, cycles })
 }
 
 // Runs at most so many cycles of all workers of a network, stretch by stretch, for as long as that

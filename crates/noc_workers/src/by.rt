@@ -1,12 +1,11 @@
 //! A network runs by workers.
 
-ghost use Rattle.std.specs.Prelude.{◌≡◌, ℕ, ◌+◌, ◌<◌, ◌≤◌, IfOk, IsOk};
-ghost use Rattle.noc_workers.specs.Prelude.{AreFindings, MayRun, ShowsRun, setup_by};
+ghost use Rattle.std.specs.Prelude.{◌≡◌, ◌+◌, ◌<◌, ◌≤◌, IfOk, IsOk};
+ghost use Rattle.noc_workers.specs.Prelude.{CYCLE_LIMIT, MayRun, ShowsRun, net_in, setup_by};
 
 use crate::apart::{Ahead, Ran, run_apart};
-use crate::origin::Setup;
 use crate::pace::{Pace, each, together};
-use noc_engine::Engine;
+use noc_engine::{Columns, Engine, Setup};
 use noc_exchange::NotRun;
 use std::alloc::Global;
 use std::sync::Wait;
@@ -24,24 +23,21 @@ pub fn run_by<R: Threads + Wait + Clock + Sync>(
     cycles: u32,
     workers: usize,
 ) -> Result<Engine, NotRun>
-    requires { (n : ℕ) × MayRun setup.now.relation.now (setup_by setup.now) n cycles engine }
-    ensures shows { (n : ℕ) → MayRun setup.now.relation.now (setup_by setup.now) n cycles engine
-        → IfOk result (ShowsRun (setup_by setup.now) (n + cycles)) }
-    ensures found { (n : ℕ) → MayRun setup.now.relation.now (setup_by setup.now) n cycles engine
-        → 0 < cycles → IfOk result (AreFindings (setup_by setup.now)) }
-    ensures kept { cycles ≡ 0 → IfOk result (λ all. all ≡ engine) }
+    requires setup { engine.net ≡ setup_by setup.now }
+    requires within { engine.count + cycles ≤ CYCLE_LIMIT }
+    ensures value { IfOk result (λ e. e ≡ record engine { count = engine.count + cycles }) }
     ensures alone { workers ≤ 1 → IsOk result }
 {
-    let mut engine = engine;
-    let mut pace = Pace::new(workers, engine.tile.blocks.len());
+    let mut columns = engine.into_columns();
+    let mut pace = Pace::new(workers, columns.tile.blocks.len());
     let mut left = cycles;
     while left > 1 {
-        let ran = run_stretch(rt, alloc, setup, engine, left - 1, &mut pace)?;
-        engine = ran.engine;
+        let ran = run_stretch(rt, alloc, setup, columns, left - 1, &mut pace)?;
+        columns = ran.columns;
         left -= ran.cycles;
     }
-    engine.run(setup.relation, left);
-    Ok(engine)
+    columns.run(setup.relation, left);
+    Ok(Engine::of(columns))
 }
 
 // Runs some of so many cycles, by as many workers as pay at this pace; or one, with those after it
@@ -51,32 +47,33 @@ fn run_stretch<R: Threads + Wait + Clock + Sync>(
     rt: &R,
     alloc: Global,
     setup: &Setup<'_>,
-    engine: Engine,
+    columns: Columns,
     most: u32,
     pace: &mut Pace,
 ) -> Result<Ran, NotRun>
     requires some { 0 < most }
-    requires may { (n : ℕ) × MayRun setup.now.relation.now (setup_by setup.now) n most engine }
+    requires made { net_in columns.origin ≡ setup_by setup.now }
+    requires may { MayRun setup.now.relation.now most columns }
     ensures some { IfOk result (λ ran. (0 < ran.cycles) × (ran.cycles ≤ most)) }
-    ensures shows { (n : ℕ) → MayRun setup.now.relation.now (setup_by setup.now) n most engine
-        → IfOk result (λ ran. ShowsRun (setup_by setup.now) (n + ran.cycles) ran.engine) }
+    ensures shows { IfOk result (λ ran. ShowsRun (setup_by setup.now)
+        (columns.tile.cycle + ran.cycles) ran.columns) }
     ensures workers { pace.new.workers ≡ pace.old.workers }
     ensures alone { pace.old.workers ≤ 1 → IsOk result }
 {
-    let mut engine = engine;
-    if !engine.tile.is_busy() {
-        let cycles = engine.advance(setup.relation, most);
-        return Ok(Ran { engine, cycles });
+    let mut columns = columns;
+    if !columns.tile.is_busy() {
+        let cycles = columns.advance(setup.relation, most);
+        return Ok(Ran { columns, cycles });
     }
-    let workers = pace.tiles(most).min(engine.tile.blocks.len());
+    let workers = pace.tiles(most).min(columns.tile.blocks.len());
     if workers > 1 {
         let most = together(most);
-        return run_apart(rt, alloc, setup, engine, Ahead { workers, most }, pace);
+        return run_apart(rt, alloc, setup, columns, Ahead { workers, most }, pace);
     }
     let cycles = pace.cycles(1, most);
     let begin = pace.time(rt);
-    engine.run(setup.relation, cycles);
+    columns.run(setup.relation, cycles);
     let took = each(begin, pace.time(rt), cycles);
     pace.heed(1, cycles, took);
-    Ok(Ran { engine, cycles })
+    Ok(Ran { columns, cycles })
 }

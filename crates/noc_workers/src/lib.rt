@@ -23,4 +23,3 @@ mod worker;
 
 pub use by::run_by;
 pub use noc_exchange::NotRun;
-pub use origin::Setup;

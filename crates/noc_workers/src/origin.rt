@@ -8,17 +8,6 @@ use noc_packet::Packet;
 use noc_route::Relation;
 use std::snapshot::Snapshot;
 
-/// What a network is made from.
-#[derive(Clone, Copy)]
-pub struct Setup<'a> {
-    /// The relation by which it runs.
-    pub relation: &'a Relation,
-    /// Flits in each buffer.
-    pub depth: usize,
-    /// Its packets.
-    pub packets: &'a Vec<Packet>,
-}
-
 /// A run of a network: from what the network was made, and where the run begins.
 #[derive(Clone, Copy)]
 pub(crate) struct Run<'a> {

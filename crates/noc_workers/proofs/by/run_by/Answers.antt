@@ -1,43 +1,58 @@
-use Rattle.std.proofs.Common.{◌+◌, ◌-◌, arith}
-use Rattle.noc_workers.specs.Rounds.{setup_by}
-use Rattle.noc_workers.proofs.ByLemmas.{last-run, may-stretch, none-run, some-run}
+use Rattle.std.proofs.Common.{◌+◌, ◌-◌, ◌∙◌, ap, arith, refl, subst, sym}
+use Rattle.noc_theory.specs.Network.{Run, Setup}
+use Rattle.noc_engine.specs.Origins.{setup_by}
+use Rattle.noc_engine.specs.Runs.{AreFindings, ShowsRun}
+use Rattle.noc_engine.proofs.RunLemmas.{own-shown, run-is}
+use Rattle.noc_workers.proofs.ByLemmas.{last-found, last-run, may-stretch, none-run, some-run}
 use Rattle.noc_workers.proofs.by.run_by.Goals as goal
 
 pub loop-left-init : goal.loop-left-init
-loop-left-init g c = record {
-  on = none-run c.args.setup.now.relation.now (setup_by c.args.setup.now) c.args.cycles c.args.engine;
-  pace = c.new-pace.ensures;
-}
+loop-left-init g c =
+    let net = setup_by c.args.setup.now in
+    let first = c.into_columns-columns.result in
+    record {
+      on = none-run c.args.setup.now.relation.now net c.args.engine.count c.args.cycles refl c.requires.within first
+          (subst (λ (m : Setup). ShowsRun m c.args.engine.count first) c.requires.setup c.into_columns-columns.ensures.shows) (subst (λ (m : Setup). AreFindings m first) c.requires.setup c.into_columns-columns.ensures.found);
+      pace = c.new-pace.ensures;
+    }
+
+pub run_stretch-requires-clause-made : goal.run_stretch-requires-clause-made
+run_stretch-requires-clause-made g c κs within = c.loop-left.invariant.on.shows.1.made
 
 pub run_stretch-requires-clause-may : goal.run_stretch-requires-clause-may
 run_stretch-requires-clause-may g c κs within =
-    let h = c.requires in
-    let left = c.loop-left.left in
-    (h.0 + (c.args.cycles - left), may-stretch c.args.setup.now.relation.now (setup_by c.args.setup.now) c.args.cycles c.args.engine left c.loop-left.engine c.loop-left.invariant.on h.0 (left - 1) (omega arith) h.1)
+    may-stretch c.args.setup.now.relation.now (setup_by c.args.setup.now) c.args.engine.count c.args.cycles refl c.requires.within c.loop-left.left c.loop-left.columns c.loop-left.invariant.on (c.loop-left.left - 1) (omega arith)
 
 pub loop-left-preserved : goal.loop-left-preserved
 loop-left-preserved g c =
     let ran = c.in_ok-ran.ran in
     let some = c.in_ok-ran.ensures.some in
     record {
-      on = some-run c.args.setup.now.relation.now (setup_by c.args.setup.now) c.args.cycles c.args.engine c.loop-left.left c.loop-left.engine c.loop-left.invariant.on ran.cycles ran.engine
+      on = some-run c.args.setup.now.relation.now (setup_by c.args.setup.now) c.args.engine.count c.args.cycles refl c.requires.within c.loop-left.left c.loop-left.columns c.loop-left.invariant.on ran.cycles ran.columns
           (omega (arith, c.loop-left-test.true, some.1)) c.in_ok-ran.ensures.shows;
       pace = omega (arith, c.in_ok-ran.ensures.workers, c.loop-left.invariant.pace);
     }
 
 pub run-requires : goal.run-requires
 run-requires g c =
-    let h = c.requires in
-    (setup_by c.args.setup.now, h.0 + (c.args.cycles - c.loop-left.left), c.loop-left.invariant.on.may h.0 h.1)
+    may-stretch c.args.setup.now.relation.now (setup_by c.args.setup.now) c.args.engine.count c.args.cycles refl c.requires.within c.loop-left.left c.loop-left.columns c.loop-left.invariant.on c.loop-left.left (omega arith)
 
-pub returns-clause-shows : goal.returns-clause-shows
-returns-clause-shows g c = λ n may.
+pub of-requires : goal.of-requires
+of-requires g c =
+    let net = setup_by c.args.setup.now in
+    let n = c.args.engine.count in
+    let relation = c.args.setup.now.relation.now in
     let left = c.loop-left.left in
     let on = c.loop-left.invariant.on in
-    last-run c.args.setup.now.relation.now (setup_by c.args.setup.now) c.args.cycles c.args.engine left c.loop-left.engine on n c.run.new.self
-    (c.run.ensures.shows (setup_by c.args.setup.now) (n + (c.args.cycles - left)) (on.may n may))
+    record {
+      shows = own-shown net (n + c.args.cycles) c.run.new.self (last-run relation net n c.args.cycles refl c.requires.within left c.loop-left.columns on c.run.new.self c.run.ensures.shows);
+      found = last-found relation net n c.args.cycles refl c.requires.within left c.loop-left.columns on c.run.new.self c.run.ensures.shows c.run.ensures.found c.run.ensures.kept;
+    }
 
-pub returns-clause-found : goal.returns-clause-found
-returns-clause-found g c = λ n may some.
-    let on = c.loop-left.invariant.on in
-    c.run.ensures.found (setup_by c.args.setup.now) (n + (c.args.cycles - c.loop-left.left)) (on.may n may) (on.some some)
+pub returns-clause-value : goal.returns-clause-value
+returns-clause-value g c =
+    let net = setup_by c.args.setup.now in
+    let n = c.args.engine.count in
+    c.of.ensures
+    ∙ run-is net (n + c.args.cycles) c.run.new.self (last-run c.args.setup.now.relation.now net n c.args.cycles refl c.requires.within c.loop-left.left c.loop-left.columns c.loop-left.invariant.on c.run.new.self c.run.ensures.shows)
+    ∙ ap (λ (m : Setup). (let u : Run = record { net = m; count = n + c.args.cycles } in u)) (sym c.requires.setup)

@@ -1,32 +1,28 @@
-use Rattle.std.proofs.Common.{◌+◌, ◌-◌, arith, subst}
-use Rattle.noc_engine.specs.Runs.{ShowsRun}
-use Rattle.noc_engine.proofs.RunLemmas.{may-begin, may-end}
+use Rattle.std.proofs.Common.{◌+◌, ◌≤◌, ◌∙◌, ap, sym, subst}
+use Rattle.noc_theory.specs.Network.{Run}
+use Rattle.noc_theory.specs.declared.limits.TheConstants.{CYCLE_LIMIT}
+use Rattle.noc_engine.specs.Origins.{net_in}
+use Rattle.noc_engine.proofs.RunLemmas.{found-then, own-shown, run-is}
 use Rattle.noc_engine.proofs.engine.Engine.run.Goals as goal
 
-pub go-requires : goal.go-requires
-go-requires c = (c.requires.0, c.requires.1, may-begin c.args.relation.now c.args.cycles c.args.self.now c.requires.0 c.requires.1 c.requires.2)
+pub run-requires : goal.run-requires
+run-requires c = record {
+  is = ap (λ (u : Run). u.net.relation) c.self.view_is ∙ c.requires.relation;
+  within = subst (λ (u : Run). u.count + c.args.cycles ≤ CYCLE_LIMIT) (sym c.self.view_is) c.requires.within;
+  shows = c.self.invariant.shows;
+}
 
-pub finish-requires : goal.finish-requires
-finish-requires c =
-    let net = c.requires.0 in
-    let n = c.requires.1 in
-    let may = c.requires.2 in
-    let relation = c.args.relation.now in
-    let all = c.args.self.now in
-    (net, n + (c.args.cycles - 1), may-end relation c.args.cycles all net n c.go.new.self c.if-cycles-gt0.true may (c.go.ensures net n (may-begin relation c.args.cycles all net n may)))
+pub invariant_of-self : goal.invariant_of-self
+invariant_of-self c =
+    let all = c.self.inside.columns in
+    let next = c.run.new.self in
+    record {
+      shows = own-shown (net_in all.origin) (all.tile.cycle + c.args.cycles) next c.run.ensures.shows;
+      found = found-then (net_in all.origin) (all.tile.cycle + c.args.cycles) c.args.cycles all next c.run.ensures.shows (λ none. c.self.invariant.found) c.run.ensures.found c.run.ensures.kept;
+    }
 
-pub returns-then-cycles-gt0-clause-shows : goal.returns-then-cycles-gt0-clause-shows
-returns-then-cycles-gt0-clause-shows c = λ net n may.
-    let relation = c.args.relation.now in
-    let all = c.args.self.now in
-    subst (λ m. ShowsRun net m c.finish.new.self) (omega (arith, c.if-cycles-gt0.true))
-    (c.finish.ensures.shows net (n + (c.args.cycles - 1)) (may-end relation c.args.cycles all net n c.go.new.self c.if-cycles-gt0.true may (c.go.ensures net n (may-begin relation c.args.cycles all net n may))))
-
-pub returns-then-cycles-gt0-clause-found : goal.returns-then-cycles-gt0-clause-found
-returns-then-cycles-gt0-clause-found c = λ net n may some.
-    let relation = c.args.relation.now in
-    let all = c.args.self.now in
-    c.finish.ensures.found net (n + (c.args.cycles - 1)) (may-end relation c.args.cycles all net n c.go.new.self c.if-cycles-gt0.true may (c.go.ensures net n (may-begin relation c.args.cycles all net n may)))
-
-pub returns-else-cycles-gt0-clause-shows : goal.returns-else-cycles-gt0-clause-shows
-returns-else-cycles-gt0-clause-shows c = λ net n may. subst (λ m. ShowsRun net m c.args.self.now) (omega (arith, c.if-cycles-gt0.false)) may.shows
+pub returns : goal.returns
+returns c =
+    let all = c.self.inside.columns in
+    run-is (net_in all.origin) (all.tile.cycle + c.args.cycles) c.run.new.self c.run.ensures.shows
+    ∙ ap (λ (u : Run). (let v : Run = record { net = u.net; count = u.count + c.args.cycles } in v)) c.self.view_is

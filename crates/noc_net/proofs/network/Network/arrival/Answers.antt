@@ -3,7 +3,6 @@ use Rattle.noc_route.specs.Ranks.{IsRankedBy, Ranking}
 use Rattle.noc_theory.specs.Good.{IsGoodSetup}
 use Rattle.noc_theory.specs.Network.{Run, arrival_in, state_at}
 use Rattle.noc_net.specs.Limit.{IsLimit}
-use Rattle.noc_net.specs.Parts.{setup_in}
 use Rattle.noc_net.proofs.LimitLemmas.{arrives}
 use Rattle.noc_net.proofs.NetworkLemmas.{routers-run, shown}
 use Rattle.noc_net.proofs.network.Network.arrival.Goals as goal
@@ -18,10 +17,7 @@ in-time u good number l answer e = λ ranks limit ranked is late.
     (one.0, e ∙ one.1, one.2)
 
 pub arrival-requires : goal.arrival-requires
-arrival-requires c =
-    let n = c.self.inside in
-    let within : c.args.packet < length n.parts.packets.items = subst (λ (u : Run). c.args.packet < length u.net.packets) (sym c.self.view_is) c.requires in
-    (setup_in n.parts, n.count, (shown n c.self.invariant c.in-Some.engine c.in-Some.is).0, within)
+arrival-requires c = subst (λ (u : Run). c.args.packet < length u.net.packets) (sym (shown c.self.inside c.self.invariant c.in-Some.engine c.in-Some.is ∙ c.self.view_is)) c.requires
 
 pub arrival-requires-in-None-clause-parts : goal.arrival-requires-in-None-clause-parts
 arrival-requires-in-None-clause-parts c = c.self.invariant.parts
@@ -30,11 +26,7 @@ pub arrival-requires-in-None-clause-packet : goal.arrival-requires-in-None-claus
 arrival-requires-in-None-clause-packet c = subst (λ (u : Run). c.args.packet < length u.net.packets) (sym c.self.view_is) c.requires
 
 pub returns-in-Some-clause-value : goal.returns-in-Some-clause-value
-returns-in-Some-clause-value c =
-    let n = c.self.inside in
-    let within : c.args.packet < length n.parts.packets.items = subst (λ (u : Run). c.args.packet < length u.net.packets) (sym c.self.view_is) c.requires in
-    c.arrival.ensures (setup_in n.parts) n.count (shown n c.self.invariant c.in-Some.engine c.in-Some.is).0 within
-    ∙ ap (λ (u : Run). arrival_in u.net (state_at u.net u.count) c.args.packet) c.self.view_is
+returns-in-Some-clause-value c = c.arrival.ensures ∙ ap (λ (u : Run). arrival_in u.net (state_at u.net u.count) c.args.packet) (shown c.self.inside c.self.invariant c.in-Some.engine c.in-Some.is ∙ c.self.view_is)
 
 pub returns-in-None-clause-value : goal.returns-in-None-clause-value
 returns-in-None-clause-value c =

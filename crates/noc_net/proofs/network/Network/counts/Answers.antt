@@ -2,17 +2,17 @@ use Rattle.std.proofs.Common.{◌+◌, ◌*◌, ◌<◌, ap, sym, ◌∙◌, sub
 use Rattle.noc_topo.specs.Shape.{nodes, ports}
 use Rattle.noc_theory.specs.Lockstep.{counts_before}
 use Rattle.noc_theory.specs.Network.{Run}
-use Rattle.noc_net.specs.Parts.{setup_in}
 use Rattle.noc_net.proofs.NetworkLemmas.{routers-run, shown}
 use Rattle.noc_net.proofs.network.Network.counts.Goals as goal
 
 pub counts-requires : goal.counts-requires
 counts-requires c =
-    let n = c.self.inside in
-    let router : c.args.router < nodes n.parts.relation.grid = subst (λ (u : Run). c.args.router < nodes u.net.relation.grid) (sym c.self.view_is) c.requires.router in
-    let port : c.args.port < ports n.parts.relation.grid = subst (λ (u : Run). c.args.port < ports u.net.relation.grid) (sym c.self.view_is) c.requires.port in
-    let vc : c.args.vc < n.parts.relation.vcs = subst (λ (u : Run). c.args.vc < u.net.relation.vcs) (sym c.self.view_is) c.requires.vc in
-    (setup_in n.parts, n.count, (shown n c.self.invariant c.in-Some.engine c.in-Some.is).0, router, port, vc)
+    let is = shown c.self.inside c.self.invariant c.in-Some.engine c.in-Some.is ∙ c.self.view_is in
+    record {
+      router = subst (λ (u : Run). c.args.router < nodes u.net.relation.grid) (sym is) c.requires.router;
+      port = subst (λ (u : Run). c.args.port < ports u.net.relation.grid) (sym is) c.requires.port;
+      vc = subst (λ (u : Run). c.args.vc < u.net.relation.vcs) (sym is) c.requires.vc;
+    }
 
 pub counts-requires-in-None-clause-parts : goal.counts-requires-in-None-clause-parts
 counts-requires-in-None-clause-parts c = c.self.invariant.parts
@@ -28,12 +28,7 @@ counts-requires-in-None-clause-vc c = subst (λ (u : Run). c.args.vc < u.net.rel
 
 pub returns-in-Some : goal.returns-in-Some
 returns-in-Some c =
-    let n = c.self.inside in
-    let router : c.args.router < nodes n.parts.relation.grid = subst (λ (u : Run). c.args.router < nodes u.net.relation.grid) (sym c.self.view_is) c.requires.router in
-    let port : c.args.port < ports n.parts.relation.grid = subst (λ (u : Run). c.args.port < ports u.net.relation.grid) (sym c.self.view_is) c.requires.port in
-    let vc : c.args.vc < n.parts.relation.vcs = subst (λ (u : Run). c.args.vc < u.net.relation.vcs) (sym c.self.view_is) c.requires.vc in
-    c.counts.ensures (setup_in n.parts) n.count (shown n c.self.invariant c.in-Some.engine c.in-Some.is).0 router port vc
-    ∙ ap (λ (u : Run). counts_before u.net u.count c.args.router (c.args.port * u.net.relation.vcs + c.args.vc)) c.self.view_is
+    c.counts.ensures ∙ ap (λ (u : Run). counts_before u.net u.count c.args.router (c.args.port * u.net.relation.vcs + c.args.vc)) (shown c.self.inside c.self.invariant c.in-Some.engine c.in-Some.is ∙ c.self.view_is)
 
 pub returns-in-None : goal.returns-in-None
 returns-in-None c =

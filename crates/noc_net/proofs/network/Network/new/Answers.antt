@@ -7,7 +7,6 @@ use Rattle.noc_theory.specs.Good.{IsGoodSetup}
 use Rattle.noc_packet.specs.ByNode.{starts_of, ends_of}
 use Rattle.noc_theory.specs.Network.{Setup}
 use Rattle.noc_theory.proofs.runs.RunLemmas.{opening_views, opening_wires, silent_at}
-use Rattle.noc_net.proofs.NetworkLemmas.{opened}
 use Rattle.noc_net.proofs.PartsLemmas.{parts-in_step}
 use Rattle.noc_net.proofs.network.Network.new.Goals as goal
 
@@ -16,7 +15,7 @@ invariant_of-result c =
     let net : Setup = record { relation = c.args.relation; depth = c.args.depth; packets = c.args.packets.items } in
     let views : c.in_ok-routers.field-0.routers.items ≡ tabulate (nodes c.args.relation.grid) (λ node. opening_view (record { grid = c.args.relation.grid; node = node; vcs = c.args.relation.vcs; depth = c.args.depth }) (starts_of c.args.packets.items node) (ends_of c.args.packets.items node)) =
     c.in_ok-routers.ensures.routers
-    ∙ ap (λ (packets : List Packet). tabulate (nodes c.args.relation.grid) (λ node. opening_view (record { grid = c.args.relation.grid; node = node; vcs = c.args.relation.vcs; depth = c.args.depth }) (starts_of packets node) (ends_of packets node))) c.deref-5.ensures.value in
+    ∙ ap (λ (packets : List Packet). tabulate (nodes c.args.relation.grid) (λ node. opening_view (record { grid = c.args.relation.grid; node = node; vcs = c.args.relation.vcs; depth = c.args.depth }) (starts_of packets node) (ends_of packets node))) c.deref-4.ensures.value in
     let good : IsGoodSetup net = subst (λ (packets : List Packet). IsGoodSetup (record { relation = c.args.relation; depth = c.args.depth; packets = packets })) c.deref.ensures.value
     (c.in_default.ensures.good c.args.depth c.requires.some_depth) in
     record {
@@ -27,7 +26,7 @@ invariant_of-result c =
           c.in_ok-routers.ensures.room;
       behind = omega arith;
       within = omega arith;
-      engine = opened net c.in_ok-engine.engine (c.in_ok-engine.ensures net (record { relation_is = refl; depth_is = refl; packets_are = sym c.deref-3.ensures.value }) good);
+      engine = c.in_ok-engine.ensures;
       routers = λ e. refl;
     }
 
