@@ -93,6 +93,7 @@ ANSWERED: list[tuple[list[str], str, str, str]] = [
      "config relation traffic network run1 run2"),
 ]
 REPORTS = [["--report", kind] for kind in ("summary", "latency", "stalls")]
+FINDINGS = ["--cycle", "0", "--router", "0"]
 
 
 class Growths:
@@ -141,7 +142,8 @@ def each_growth_refused(growths: Growths) -> None:
 
 
 def no_growth_after_building(growths: Growths) -> None:
-    """The program asks for memory as often for one cycle as for a thousand, and for each report."""
+    """The program asks for memory as often for one cycle as for a thousand, and for each report. So it does for
+    findings, which no workers are asked for."""
     by_two = "--workers", "2"
     for name, traffic, more in (("pair", "one", ()), ("ring", "round", ()), ("line", "two", by_two),
                                 ("wide", "two", by_two)):
@@ -149,9 +151,10 @@ def no_growth_after_building(growths: Growths) -> None:
         growths.calls.put(short=short.encode(), long=long.encode())
         asked = set()
         for text in ("short", "long"):
-            for kind in REPORTS:
-                ran, number = growths.refusing(0, ["run", text, traffic, *more, *kind])
-                growths.calls.count(f"{text} {name} {kind}", ran.returncode == 0 and number > 0, ran)
+            findings = [] if more else [["explain", text, traffic, *FINDINGS]]
+            for call in [*(["run", text, traffic, *more, *kind] for kind in REPORTS), *findings]:
+                ran, number = growths.refusing(0, call)
+                growths.calls.count(f"{name} {call}", ran.returncode == 0 and number > 0, ran)
                 asked.add(number)
         growths.calls.count(f"growths of {name}: {asked}", len(asked) == 1, ran)
 

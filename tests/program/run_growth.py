@@ -26,16 +26,16 @@ BY_ONE = "growth::a_line_runs_by_one_worker"
 BY_MANY = ["growth::a_line_runs_by_two_workers", "growth::a_line_runs_by_three_workers"]
 MADE = "growth::a_line_is_made"
 REFUSED = [
-    "buffers::banks_go_to_a_thread_and_come_back_with_their_flits", "ranks::ranks_are_made_from_rows",
-    "growth::a_router_and_a_plan_are_made", MADE, *BY_MANY, "inputs::bytes_one_by_one_up_to_the_limit",
+    "buffers::banks_go_to_a_thread_and_come_back_with_their_flits", "inputs::bytes_one_by_one_up_to_the_limit",
+    "growth::a_router_and_a_plan_are_made", MADE, *BY_MANY,
 ]
 TAKES_NONE = [
-    "growth::a_line_runs_twice_and_is_read", "growth::a_core_of_a_line_is_read", "growth::a_line_is_reported",
-    "events::parts_make_the_network_again", "events::cycles_from_the_last_router_to_the_first", BY_ONE,
+    "growth::a_line_runs_twice_and_is_read", "growth::a_core_of_a_line_is_read", "events::parts_make_the_network_again",
+    "events::cycles_from_the_last_router_to_the_first", BY_ONE,
 ]
 NO_THREAD = [BY_ONE, *BY_MANY]
-NO_WORKER = re.compile(r"error: (\w+\()*NoWorker\)*$", re.MULTILINE)
-WANT = re.compile(r"error: (\w+\()*(Memory|NoWorker|AllocError)\)*$", re.MULTILINE)
+NO_WORKER = re.compile(r"Error: (\w+\()*NoWorker\)*$", re.MULTILINE)
+WANT = re.compile(r"Error: (\w+\()*(Memory|NoWorker|AllocError)\)*$", re.MULTILINE)
 
 
 class Tests:

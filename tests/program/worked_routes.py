@@ -1,5 +1,6 @@
-"""What routing rules permit and which ranks they have, as traces and rank files tell it, worked out by hand from the
-rules of docs/MODEL.md."""
+"""What routing rules permit, which ranks they have, and to where links lead, as traces and rank files tell it: worked
+out by hand from the rules of docs/MODEL.md."""
+from itertools import product
 from typing import TYPE_CHECKING
 
 from fault_lines import HEADERS
@@ -47,11 +48,26 @@ NO_RELATIONS = [
     ("torus", (3,), 3, 2, 1, "dateline"), ("mesh", (3,), 1, 2, 1, "adaptive"), ("mesh", (3,), 2, 2, 2, "adaptive"),
     (*RING, 2, 2, 1, "adaptive"),
 ]
+# A torus of two by three routers whose table leads by one port of the first dimension, and then by the other dimension.
+# From router 5, in the corner, each port leads to another port or router, where a packet leaves.
+CORNER = Network("torus", (2, 3), 1, 2, 1, "table", 8)
+FROM_CORNER = [("+0", "-0", 4, "5,local,0,Moved,0,+0.0", "4,-0,0,Moved,0,local.0"),
+               ("-0", "+0", 4, "5,local,0,Moved,0,-0.0", "4,+0,0,Moved,0,local.0"),
+               ("+0", "-0", 1, "5,local,0,Moved,0,+1.0", "1,-1,0,Moved,0,local.0")]
+# Moves from the first to the last router of a mesh of four by three: a head moves in each third cycle.
+WIDE = Network("mesh", (4, 3), 1, 2, 1, "dor", 20)
+ACROSS = ["0,local,0,Moved,0,+0.0", "1,-0,0,Moved,0,+0.0", "2,-0,0,Moved,0,+0.0", "3,-0,0,Moved,0,+1.0",
+          "7,-1,0,Moved,0,+1.0", "11,-1,0,Moved,0,local.0"]
+# The channels by which flits come to its router 3, which has a border on two sides.
+AT_A_BORDER = ["3,-0,0", "3,+1,0", "3,local,0"]
 # Ranks by formula of west first on nine routers: of a link to the west, of one to the north and of one to the east.
 WEST_FIRST_RANKS = ["2,-0,0,1", "3,+1,0,5", "0,+0,0,7"]
-# Ranks of a line of three routers, of which channel 1 of each link is adaptive, that rise behind each other.
+# Ranks of a line of three routers, of which channel 1 of each link is adaptive, that rise behind each other, and others
+# of which two do not.
 RISING = ["0,+0,0,2", "0,+0,1,adaptive", "1,+0,0,3", "1,+0,1,adaptive", "1,-0,0,2", "1,-0,1,adaptive", "2,-0,0,1",
           "2,-0,1,adaptive"]
+LEVEL = ["0,+0,0,7", RISING[1], "1,+0,0,7", *RISING[3:]]
+NOT_RISING = b"fault rank 2 NotRising router 0 port +0 vc 0 to router 1 port +0 vc 0 ranks 7 7\n"
 
 
 def ask(calls: "Calls", network: Network, **texts: list[str]) -> None:
@@ -80,6 +96,39 @@ def relations(calls: "Calls") -> None:
         calls.answers(f"no relation {network}", ["ranks", "given"], b"fault relation 1 WrongShape\n")
 
 
+def led_round(across: str, back: str) -> list[str]:
+    """The table of CORNER: packets go by this port of the first dimension, and come to the port of the other way."""
+    rows: list[str] = []
+    for router, dst in product(range(CORNER.nodes), repeat=2):
+        is_over, onward = (router - dst) % 2 == 0, ("local", "+1", "-1")[(dst // 2 - router // 2) % 3]
+        ports = [(back, onward)] if is_over else []
+        ports += [("-1", onward), ("+1", onward)] if router == dst else [("local", onward if is_over else across)]
+        rows += [f"0,{router},{port},0,{dst},{out},0" for port, out in ports]
+    return rows
+
+
+def moves(lines: list[str]) -> bytes:
+    """A trace of a packet that moves in each third cycle."""
+    return (TRACE_HEADER + "".join(f"{2 + 3 * hop},{line},-\n" for hop, line in enumerate(lines))).encode()
+
+
+def links(calls: "Calls") -> None:
+    """To where links lead, also round a torus, and how far it is."""
+    words = ["trace", "given", "given_traffic", "--verdict", "Moved"]
+    for across, back, dst, *lines in FROM_CORNER:
+        ask(calls, CORNER, traffic=[f"5,{dst},0,1,0"], table=led_round(across, back))
+        calls.answers(f"from the corner to {dst} by {across}", [*words, "--table", "given_table"], moves(lines))
+    ask(calls, WIDE, traffic=["0,11,0,1,0"])
+    calls.answers("across a mesh", words, moves(ACROSS))
+    ran = calls.run(["run", "given", "given_traffic", "--report", "stalls"])
+    found = [row[:len(row) - 10] for row in (line.split(",") for line in ran.stdout.decode().splitlines())]
+    at_a_border = [",".join(row) for row in found if row[0] == "3"]
+    calls.count("links at a border", at_a_border == AT_A_BORDER and len(found) == 1 + 12 + 2 * (9 + 8), ran)
+    ask(calls, Network("torus", (2, 3), 2, 2, 1, "dateline", 20), traffic=["0,5,0,1,0"])
+    calls.answers("round a torus", ["run", "given", "given_traffic"],
+                  f"{HEADERS['latency']}0,0,5,0,1,0,8,8\n".encode())
+
+
 def ranks(calls: "Calls") -> None:
     """Ranks by formula, those of the largest mesh, and ranks beside adaptive channels."""
     ask(calls, Network(*SQUARE, 1, 2, 1, "west-first", 8))
@@ -88,10 +137,13 @@ def ranks(calls: "Calls") -> None:
     ask(calls, Network("mesh", (16, 16), 4, 2, 4, "dor", 8))
     calls.put(made=calls.run(["ranks", "given"]).stdout)
     calls.answers("ranks of the largest mesh", ["check", "given", "--ranks", "made"], b"accepted\n")
+    ask(calls, Network("mesh", (3,), 2, 2, 1, "dor", 8), ranks=LEVEL)
+    ran = calls.run(["check", "given", "--ranks", "given_ranks"])
+    calls.count("ranks that do not rise", (ran.returncode, ran.stdout, ran.stderr) == (4, b"", NOT_RISING), ran)
     ask(calls, Network("mesh", (3,), 2, 2, 1, "dor", 8), ranks=RISING)
     calls.answers("ranks beside adaptive channels", ["check", "given", "--ranks", "given_ranks"], b"accepted\n")
 
 
 def worked_routes(calls: "Calls") -> None:
-    for group in (permitted_channels, relations, ranks):
+    for group in (permitted_channels, relations, links, ranks):
         group(calls)

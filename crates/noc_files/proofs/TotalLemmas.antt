@@ -1,6 +1,6 @@
 -- Totals that are raised, again and again.
-use Rattle.std.proofs.Common.{◌≡◌, ℕ, ◌+◌, ◌≤◌, List, arith}
-use Rattle.noc_files.specs.Summary.{AreRaised}
+use Rattle.std.proofs.Common.{◌≡◌, ℕ, ◌+◌, ◌*◌, ◌^◌, ◌≤◌, List, arith}
+use Rattle.noc_files.specs.Summary.{AreRaised, AreUpTo}
 
 -- by nothing
 pub raised-none : (f : ℕ → ℕ) (totals : List ℕ) → ((column : ℕ) → f column ≡ 0) → AreRaised f 0 totals totals
@@ -23,3 +23,7 @@ raised-as f g j k a b same wider raised = record {
   more = λ column l. omega (arith, raised.more column l, same column);
   bound = λ column l. omega (arith, raised.bound column l, same column, wider);
 }
+
+-- so far that no total is above a greater number
+pub raised-up-to : (f : ℕ → ℕ) (j m n : ℕ) (a b : List ℕ) → AreRaised f j a b → AreUpTo m a → m + j * 2 ^ 64 ≤ n → AreUpTo n b
+raised-up-to f j m n a b raised low fits = λ column l. omega (arith, raised.more column l, raised.bound column l, low column l)

@@ -74,6 +74,14 @@ pub record IsKept (net : Setup) (traced : Traced) (first n : ℕ) (lists : List 
   pub long : HaveChannels (size net) lists
   pub said : (r i : ℕ) → r < nodes net.relation.grid → i < size net → option_and_then (traced_finding traced.packet) (kept_at lists r i) ≡ told_before net traced first n r i
 
+-- there are no more of them than routers
+pub few_kept : (net : Setup) (traced : Traced) (first n : ℕ) (lists : List (List Finding)) → IsKept net traced first n lists → length lists ≤ nodes net.relation.grid
+few_kept net traced first n lists kept = few traced.changes kept.many
+  where
+    few : (b : Bool) → length lists ≡ (if b then nodes net.relation.grid else 0) → length lists ≤ nodes net.relation.grid
+    few true many = omega (arith, many)
+    few false many = omega (arith, many)
+
 pub length-findings : (net : Setup) (n r : ℕ) → length (findings_in_cycle net n r) ≡ size net
 length-findings net n r = length-tabulate (size net) (λ i. finding_in net (frozen_at net n) r i (arriving net r i))
 

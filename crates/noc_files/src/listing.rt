@@ -2,7 +2,7 @@
 
 ghost use Rattle.std.specs.Prelude.{◌≡◌, ◌+◌, ◌<◌, ◌≤◌, ◌++◌, [], true, ℕ, List, Option, length, IfSome};
 ghost use Rattle.std.proofs.Props.{props};
-ghost use Rattle.noc_files.specs.Prelude.{Grid, nodes, ports, Wrote};
+ghost use Rattle.noc_files.specs.Prelude.{below, flat_map, Grid, nodes, ports, Wrote};
 ghost use Rattle.noc_files.specs.Channels.{AreInputs, is_input, lines_listed, lines_of_port, lines_of_router, page_router, router_pages};
 
 use crate::inputs::{InputPorts, inputs_of};
@@ -99,6 +99,35 @@ pub(crate) struct Listing<'a, L: Lines> {
 }
 
 impl<'a, L: Lines> Listing<'a, L> {
+    // Whether a port is local or has a link.
+    #[inline]
+    fn has_lines(&self, router: usize, port: usize) -> bool
+        requires router { router < nodes (L.grid self.now.lines.now) }
+        requires port { port < L.listed self.now.lines.now }
+        ensures { result ≡ is_input (L.grid self.now.lines.now) router port }
+    {
+        let ListedChannels { shape, listed, .. } = self.lines.channels();
+        // (the counts say that the index is within the table)
+        prove!(router < shape.nodes() && port < listed && listed <= shape.ports());
+        self.inputs[router * MAX_PORTS + port]
+    }
+
+    // Adds the lines on an input port that is local or has a link.
+    #[inline]
+    fn add_lines(&self, router: usize, port: usize, page: &mut Page)
+        requires router { router < nodes (L.grid self.now.lines.now) }
+        requires port { port < L.listed self.now.lines.now }
+        requires input { is_input (L.grid self.now.lines.now) router port ≡ true }
+        requires room { length page.old + LONGEST_PORT ≤ PAGE }
+        ensures said { page.new ≡ page.old ++ flat_map
+            (L.said self.now.lines.now router port) (below (L.vcs self.now.lines.now)) }
+        ensures short { length page.new ≤ length page.old + LONGEST_PORT }
+    {
+        for vc in 0..self.lines.channels().vcs {
+            self.lines.add_line(router, port, vc, page);
+        }
+    }
+
     // Adds the lines on a port, if it is local or has a link.
     fn add_port(&self, router: usize, port: usize, page: &mut Page)
         requires router { router < nodes (L.grid self.now.lines.now) }
@@ -109,15 +138,10 @@ impl<'a, L: Lines> Listing<'a, L> {
             (L.said self.now.lines.now router) port }
         ensures short { length page.new ≤ length page.old + LONGEST_PORT }
     {
-        let ListedChannels { shape, listed, vcs } = self.lines.channels();
-        // (the counts say that the index is within the table)
-        prove!(router < shape.nodes() && port < listed && listed <= shape.ports());
-        if !self.inputs[router * MAX_PORTS + port] {
+        if !self.has_lines(router, port) {
             return;
         }
-        for vc in 0..vcs {
-            self.lines.add_line(router, port, vc, page);
-        }
+        self.add_lines(router, port, page);
     }
 }
 

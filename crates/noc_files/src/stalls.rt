@@ -1,20 +1,25 @@
 //! The stall report (docs/FORMATS.md).
 
-ghost use Rattle.std.specs.Prelude.{◌≡◌, ◌+◌, ◌≤◌, ◌++◌, ℕ, length, sum};
+ghost use Rattle.std.specs.Prelude.{◌≡◌, ◌+◌, ◌<◌, ◌≤◌, ◌++◌, ℕ, length, sum};
 ghost use Rattle.noc_files.specs.Prelude.{flat_map, ports, Run as RunValue, Wrote};
-ghost use Rattle.noc_files.specs.Stalls.{channel_counts, channel_line, count_text, stall_header, stalls_text};
+ghost use Rattle.noc_files.specs.Ports.{name_of_port};
+ghost use Rattle.noc_files.specs.Stalls.{channel_counts, channel_line, count_text, input_columns, stall_header, stalls_text};
 
 use crate::listing::{Lines, ListedChannels, write_lines};
 use crate::page::{COLUMN, PAGE, Page};
-use crate::ports::known_name;
+use crate::ports::{LONGEST_PORT_NAME, known_name};
 use crate::summary::LONGEST_NAME;
 use arrayvec::ArrayString;
 use noc_bytes::{Sink, WriteFault};
 use noc_net::Network;
+use noc_topo::Shape;
 use noc_view::{VERDICTS, Verdict};
 
 // The most bytes of the header: of its first columns, and of each verdict's name behind a comma.
 const HEADER: usize = 15 + VERDICTS * (LONGEST_NAME + 1);
+
+// The most bytes of the columns that say which channel a line is of.
+const PLACE: usize = COLUMN + LONGEST_PORT_NAME + COLUMN;
 
 // The most bytes of the counts of a channel.
 const COUNTS: usize = VERDICTS * COLUMN;
@@ -31,6 +36,21 @@ fn header() -> ArrayString<HEADER>
     }
     header.push('\n');
     header
+}
+
+// Adds the columns that say which channel a line is of.
+#[inline]
+fn add_place(shape: &Shape, router: usize, port: usize, vc: usize, page: &mut Page)
+    requires port { port < ports shape.now }
+    requires room { length page.old + PLACE ≤ PAGE }
+    ensures added { page.new
+        ≡ page.old ++ input_columns router (name_of_port shape.now port) vc }
+    ensures short { length page.new ≤ length page.old + PLACE }
+{
+    page.add_column(router as u64);
+    page.add(known_name(shape, port));
+    page.add_byte(b',');
+    page.add_number(vc as u64);
 }
 
 // Adds counts, each after a comma.
@@ -66,10 +86,7 @@ impl<'a> Lines for StallLines<'a> {
 
     #[tactic(auto, unfolding(crate::specs::Stalls::channel_line, crate::specs::Stalls::channel_counts))]
     fn add_line(&self, router: usize, port: usize, vc: usize, page: &mut Page) {
-        page.add_column(router as u64);
-        page.add(known_name(self.network.relation().shape(), port));
-        page.add_byte(b',');
-        page.add_number(vc as u64);
+        add_place(self.network.relation().shape(), router, port, vc, page);
         let counts = self.network.counts(router, port, vc);
         add_counts(&counts, page);
         page.add_byte(b'\n');

@@ -1,9 +1,8 @@
 //! Banks that go to a thread and come back.
 ghost use Rattle.std.specs.Prelude.{◌≡◌, ◌<◌, length};
 
-use noc_packet::Flit;
+use noc_packet::{Flit, Memory};
 use noc_ring::Bank;
-use std::test::Fail;
 use std::thread;
 
 fn flit(packet: u32) -> Flit {
@@ -83,15 +82,18 @@ fn give(one: &mut Bank, other: &mut Bank) -> bool
 }
 
 #[test]
-fn banks_go_to_a_thread_and_come_back_with_their_flits(rt: HostRuntime) -> Result<(), Fail> {
+fn banks_go_to_a_thread_and_come_back_with_their_flits(rt: HostRuntime) -> Result<(), Memory> {
     let mut one = Bank::new(rt.alloc(), 2, 2)?;
     let mut other = Bank::new(rt.alloc(), 1, 1)?;
-    assert!(rt; fill(&mut one, &mut other));
+    let are_filled = fill(&mut one, &mut other);
     let (mut one, mut other) = thread::join(
         &rt,
         move || replaced(one, flit(3)),
         move || replaced(other, flit(5)),
     );
-    assert!(rt; give(&mut one, &mut other));
+    let are_right = are_filled && give(&mut one, &mut other);
+    drop(one);
+    drop(other);
+    assert!(rt; are_right);
     Ok(())
 }

@@ -3,20 +3,15 @@
 
 ghost use Rattle.std.specs.Prelude.{◌≡◌, ◌∷◌, [], false};
 
-use crate::networks::{line_of_three, relation};
-use crate::read::{LINE, are_out, has_counts};
+use crate::networks::{line, line_of_three};
+use crate::read::{LINE, are_out};
 use crate::threads::line_goes_out;
-use noc_files::{Out, write_findings, write_latency, write_stalls, write_summary};
-use noc_net::{Core, Event, Network};
+use noc_net::{Core, Event, Network, RunFault};
 use noc_packet::Memory;
-use noc_route::{Relation, Rule};
+use noc_route::Relation;
 use noc_router::{Plan, Router};
 use noc_tiles::AllOpen;
-use noc_topo::Kind;
 use std::alloc::Global;
-use std::io;
-use std::io::Write;
-use std::test::Fail;
 
 // Makes router 0 of a relation, and a plan. Whether nothing has happened at the router.
 fn are_made(alloc: Global, relation: &Relation) -> Result<bool, Memory> {
@@ -32,17 +27,22 @@ fn are_made(alloc: Global, relation: &Relation) -> Result<bool, Memory> {
 }
 
 #[test]
-fn a_router_and_a_plan_are_made(rt: HostRuntime) -> Result<(), Fail> {
-    let line = relation(rt.alloc(), Kind::Mesh, &[2], 1, Rule::Dor)?;
-    let are_made = are_made(rt.alloc(), &line)?;
-    assert!(rt; are_made);
+fn a_router_and_a_plan_are_made(rt: HostRuntime) -> Result<(), Memory> {
+    let Some(line) = line(rt.alloc(), 2) else {
+        return Err(Memory);
+    };
+    let are_made = are_made(rt.alloc(), &line);
+    drop(line);
+    assert!(rt; are_made?);
     Ok(())
 }
 
 // The tests below, and others on this line, may ask for as many growths as this one, and no more.
 #[test]
-fn a_line_is_made(rt: HostRuntime) -> Result<(), Fail> {
-    let line = line_of_three(rt.alloc())?;
+fn a_line_is_made(rt: HostRuntime) -> Result<(), Memory> {
+    let Some(line) = line_of_three(rt.alloc()) else {
+        return Err(Memory);
+    };
     let packets = line.packets();
     drop(line);
     assert!(rt; packets == 2);
@@ -55,7 +55,6 @@ fn is_read(line: &Network) -> bool {
         && !line.pending()
         && !line.stuck()
         && line.all_out()
-        && has_counts(line, 0, 2, 0, [17, 1, 1, 1, 0, 0, 0, 0, 0, 0])
         && line.misfits() == 0
         && line.last_event() == Some(11)
         && line.limit() > 0
@@ -63,55 +62,21 @@ fn is_read(line: &Network) -> bool {
         && line.findings(0).len() == 3
 }
 
-#[test]
-fn a_line_runs_twice_and_is_read(rt: HostRuntime) -> Result<(), Fail> {
-    let mut line = line_of_three(rt.alloc())?;
+// Whether it is so where these cycles are run in two calls.
+fn is_read_after_two_calls(alloc: Global) -> bool {
+    let Some(mut line) = line_of_three(alloc) else {
+        return false;
+    };
     line.run(4);
     line.run(16);
     let is_read = is_read(&line);
     drop(line);
-    assert!(rt; is_read);
-    Ok(())
-}
-
-// A device that takes all bytes and keeps none.
-#[derive(Drop)]
-struct Counter {
-    bytes: usize,
-}
-
-impl Write for Counter {
-    fn write(&mut self, buf: &[u8]) -> io::Result<usize> {
-        self.bytes = self.bytes.saturating_add(buf.len());
-        Ok(buf.len())
-    }
-
-    fn flush(&mut self) -> io::Result<()> {
-        Ok(())
-    }
-}
-
-// How many bytes the reports of a network and the findings of its first router have.
-fn reported(network: &Network) -> Option<usize> {
-    if network.relation().shape().nodes() == 0 {
-        return None;
-    }
-    let mut out = Out::new(Counter { bytes: 0 });
-    write_latency(network, &mut out).ok()?;
-    write_stalls(network, &mut out).ok()?;
-    write_summary(network, &mut out).ok()?;
-    write_findings(network, 0, &mut out).ok()?;
-    Some(out.into_inner().bytes)
+    is_read
 }
 
 #[test]
-fn a_line_is_reported(rt: HostRuntime) -> Result<(), Fail> {
-    let mut line = line_of_three(rt.alloc())?;
-    line.run(20);
-    let reported = reported(&line);
-    drop(line);
-    assert!(rt; reported > Some(500));
-    Ok(())
+fn a_line_runs_twice_and_is_read(rt: HostRuntime) {
+    assert!(rt; is_read_after_two_calls(rt.alloc()));
 }
 
 // Whether router 0 takes, decides and puts once in a core of the line after 4 cycles.
@@ -141,31 +106,36 @@ fn is_between(core: Core) -> bool {
     }
 }
 
-#[test]
-fn a_core_of_a_line_is_read(rt: HostRuntime) -> Result<(), Fail> {
-    let mut line = line_of_three(rt.alloc())?;
+// Whether both hold of the line.
+fn core_is_read(alloc: Global) -> bool {
+    let Some(mut line) = line_of_three(alloc) else {
+        return false;
+    };
     line.run(4);
     let mut core = Core::new(line);
     let goes_on = goes_on(&mut core);
-    let is_between = is_between(core);
-    assert!(rt; goes_on && is_between);
-    Ok(())
+    is_between(core) && goes_on
 }
 
 #[test]
-fn a_line_runs_by_one_worker(rt: HostRuntime) -> Result<(), Fail> {
+fn a_core_of_a_line_is_read(rt: HostRuntime) {
+    assert!(rt; core_is_read(rt.alloc()));
+}
+
+#[test]
+fn a_line_runs_by_one_worker(rt: HostRuntime) -> Result<(), RunFault> {
     assert!(rt; line_goes_out(&rt, 1, &AllOpen)?);
     Ok(())
 }
 
 #[test]
-fn a_line_runs_by_two_workers(rt: HostRuntime) -> Result<(), Fail> {
+fn a_line_runs_by_two_workers(rt: HostRuntime) -> Result<(), RunFault> {
     assert!(rt; line_goes_out(&rt, 2, &AllOpen)?);
     Ok(())
 }
 
 #[test]
-fn a_line_runs_by_three_workers(rt: HostRuntime) -> Result<(), Fail> {
+fn a_line_runs_by_three_workers(rt: HostRuntime) -> Result<(), RunFault> {
     assert!(rt; line_goes_out(&rt, 3, &AllOpen)?);
     Ok(())
 }

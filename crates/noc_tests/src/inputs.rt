@@ -4,7 +4,6 @@ use noc_files::{InputFault, read_all};
 use std::alloc::Global;
 use std::io;
 use std::io::{ErrorKind, Read};
-use std::test::Fail;
 
 // Gives the bytes of a text one for each read, and says how often it was read. One of its reads
 // fails, if it comes so far.
@@ -47,19 +46,20 @@ fn fault_of_ten(alloc: Global, text: &[u8], fails_at: usize) -> (Option<InputFau
 }
 
 #[test]
-fn bytes_one_by_one_up_to_the_limit(rt: HostRuntime) -> Result<(), Fail> {
+fn bytes_one_by_one_up_to_the_limit(rt: HostRuntime) -> Result<(), InputFault> {
     let mut reader = dripping(b"0123456789", usize::MAX);
     let bytes = read_all(rt.alloc(), &mut reader, 10)?;
-    assert!(rt; bytes.as_slice() == b"0123456789".as_slice() && reader.reads == 11);
+    let is_whole = bytes.as_slice() == b"0123456789".as_slice();
+    drop(bytes);
+    assert!(rt; is_whole && reader.reads == 11);
     Ok(())
 }
 
 #[test]
 fn one_byte_above_the_limit(rt: HostRuntime) {
     let long = fault_of_ten(rt.alloc(), b"0123456789a", usize::MAX);
-    assert!(rt; long == (Some(InputFault::TooLong), 11));
     let empty = fault_of_ten(rt.alloc(), b"", usize::MAX);
-    assert!(rt; empty == (None, 1));
+    assert!(rt; long == (Some(InputFault::TooLong), 11) && empty == (None, 1));
 }
 
 #[test]

@@ -33,8 +33,6 @@ mod relations;
 #[cfg(test)]
 mod requests;
 #[cfg(test)]
-mod shapes;
-#[cfg(test)]
 mod sinks;
 #[cfg(test)]
 mod threads;

@@ -1,7 +1,6 @@
 //! What is read of a network, compared with what is wanted of it. Any numbers may be given.
 
 use noc_net::Network;
-use noc_view::VERDICTS;
 
 // When a packet was out. None where it is not out or does not exist.
 fn arrival(network: &Network, packet: usize) -> Option<u64> {
@@ -28,19 +27,4 @@ pub(crate) fn are_out(network: &Network, cycles: &[Option<u64>]) -> bool {
         }
     }
     network.packets() == cycles.len()
-}
-
-// Whether an input channel exists and had each verdict so often.
-pub(crate) fn has_counts(
-    network: &Network,
-    router: usize,
-    port: usize,
-    vc: usize,
-    counts: [u64; VERDICTS],
-) -> bool {
-    let shape = network.relation().shape();
-    if router >= shape.nodes() || port >= shape.ports() || vc >= network.relation().vcs() {
-        return false;
-    }
-    network.counts(router, port, vc) == counts
 }

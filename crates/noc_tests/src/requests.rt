@@ -1,14 +1,15 @@
 //! Requests about one packet of one flit from one node of a line to the other, in eight cycles.
 
-ghost use Rattle.std.specs.Prelude.{◌≡◌, IfOk};
+ghost use Rattle.std.specs.Prelude.{◌≡◌, IfSome};
 
 use crate::tray::Tray;
 use noc_answers::{Request, answer, answer_one};
 use noc_commands::{Command, Report, VerdictSet};
 use noc_faults::{Fault, Status};
-use noc_files::WriteFault;
-use std::alloc::{AllocError, Global};
-use std::test::Fail;
+use std::alloc::Global;
+use std::sync::Wait;
+use std::thread::Threads;
+use std::time::Clock;
 
 const CONFIG: &[u8] = b"kind = \"mesh\"
 radix = [2]
@@ -21,17 +22,27 @@ cycles = 8
 
 const TRAFFIC: &[u8] = b"source,destination,class,length,due\n0,1,0,1,0\n";
 
+// The report of a run.
 const LATENCY: &[u8] = b"packet,source,destination,class,length,due,out,latency\n0,0,1,0,1,0,5,5\n";
 
-// A request for a command.
-fn request(alloc: Global, command: Command) -> Result<Request, AllocError>
-    ensures { IfOk result (λ request. request.command ≡ command) }
+// What is left of it in a sink of 60 bytes.
+const CUT: &[u8] = b"packet,source,destination,class,length,due,out,latency\n0,0,1";
+
+// A request for a command. None where memory was refused.
+fn request(alloc: Global, command: Command) -> Option<Request>
+    ensures { IfSome result (λ request. request.command ≡ command) }
 {
-    Ok(Request {
-        config: Ok(CONFIG.to_vec(alloc)?),
+    let Ok(config) = CONFIG.to_vec(alloc) else {
+        return None;
+    };
+    let Ok(traffic) = TRAFFIC.to_vec(alloc) else {
+        return None;
+    };
+    Some(Request {
+        config: Ok(config),
         table: None,
         ranks: None,
-        traffic: Ok(TRAFFIC.to_vec(alloc)?),
+        traffic: Ok(traffic),
         command,
     })
 }
@@ -51,40 +62,40 @@ const RUN: Command = Command::Run {
     drain: false,
 };
 
-// Whether an answer has ended well, and this text is in its sink.
-fn is_whole(answered: &Result<Status, Fault>, sink: &Tray, text: &[u8]) -> bool {
-    matches!(answered, Ok(Status::Done)) && sink.bytes.as_slice() == text
+// Whether an answer has ended well, or with a sink that took so many bytes.
+fn has_ended(answered: &Result<Status, Fault>, cut: Option<u64>) -> bool {
+    match answered {
+        Ok(status) => *status == Status::Done && cut.is_none(),
+        Err(fault) => matches!(fault, Fault::Write(fault) if cut == Some(fault.written)),
+    }
 }
 
-// Whether an answer has ended with a sink that is full of the first 60 bytes of the report.
-fn is_cut(answered: &Result<Status, Fault>, sink: &Tray) -> bool {
-    matches!(answered, Err(Fault::Write(WriteFault { written: 60 })))
-        && sink.bytes.len() == 60
-        && LATENCY.starts_with(sink.bytes.as_slice())
+// Whether a run into a sink for so many bytes ends so, with this text in the sink.
+fn run_writes<R: AllocGlobal + Threads + Wait + Clock + Sync>(
+    rt: &R,
+    capacity: usize,
+    cut: Option<u64>,
+    text: &[u8],
+) -> bool {
+    let Some(request) = request(rt.alloc(), RUN) else {
+        return false;
+    };
+    let mut sink = tray(rt.alloc(), capacity);
+    let answered = answer(rt, rt.alloc(), &request, &mut sink);
+    drop(request);
+    let is_right = has_ended(&answered, cut) && sink.bytes.as_slice() == text;
+    drop(sink);
+    is_right
 }
 
 #[test]
-fn a_run_into_a_sink(rt: HostRuntime) -> Result<(), Fail> {
-    let request = request(rt.alloc(), RUN)?;
-    let mut sink = tray(rt.alloc(), 1000);
-    let answered = answer(&rt, rt.alloc(), &request, &mut sink);
-    drop(request);
-    let is_whole = is_whole(&answered, &sink, LATENCY);
-    drop(sink);
-    assert!(rt; is_whole);
-    Ok(())
+fn a_run_into_a_sink(rt: HostRuntime) {
+    assert!(rt; run_writes(&rt, 1000, None, LATENCY));
 }
 
 #[test]
-fn a_sink_that_is_full(rt: HostRuntime) -> Result<(), Fail> {
-    let request = request(rt.alloc(), RUN)?;
-    let mut sink = tray(rt.alloc(), 60);
-    let answered = answer(&rt, rt.alloc(), &request, &mut sink);
-    drop(request);
-    let is_cut = is_cut(&answered, &sink);
-    drop(sink);
-    assert!(rt; is_cut);
-    Ok(())
+fn a_sink_that_is_full(rt: HostRuntime) {
+    assert!(rt; run_writes(&rt, 60, Some(60), CUT));
 }
 
 // Its flit moves out of the first router in cycle 2 and out of the network in cycle 5.
@@ -93,9 +104,8 @@ const MOVES: &[u8] = b"cycle,router,port,vc,verdict,packet,out,permitted
 5,1,-0,0,Moved,0,local.0,-
 ";
 
-// A sink that keeps nothing back hands on nothing between the cycles.
-#[test]
-fn a_trace_of_one_verdict(rt: HostRuntime) -> Result<(), Fail> {
+// Whether a trace of one verdict has these lines.
+fn trace_has_moves<R: AllocGlobal + Threads + Sync>(rt: &R) -> bool {
     let trace = Command::Trace {
         from: None,
         to: None,
@@ -104,12 +114,19 @@ fn a_trace_of_one_verdict(rt: HostRuntime) -> Result<(), Fail> {
         verdicts: VerdictSet::named("Moved"),
         changes: false,
     };
-    let request = request(rt.alloc(), trace)?;
+    let Some(request) = request(rt.alloc(), trace) else {
+        return false;
+    };
     let mut sink = tray(rt.alloc(), 1000);
-    let answered = answer_one(&rt, rt.alloc(), &request, &mut sink);
+    let answered = answer_one(rt, rt.alloc(), &request, &mut sink);
     drop(request);
-    let is_whole = is_whole(&answered, &sink, MOVES);
+    let is_right = has_ended(&answered, None) && sink.bytes.as_slice() == MOVES;
     drop(sink);
-    assert!(rt; is_whole);
-    Ok(())
+    is_right
+}
+
+// A sink that keeps nothing back hands on nothing between the cycles.
+#[test]
+fn a_trace_of_one_verdict(rt: HostRuntime) {
+    assert!(rt; trace_has_moves(&rt));
 }

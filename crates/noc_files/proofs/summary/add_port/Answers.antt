@@ -1,4 +1,4 @@
-use Rattle.std.proofs.Common.{◌≡◌, ℕ, ◌+◌, ◌*◌, ◌≤◌, Bool, true, false, List, [], flat_map, get_or, refl, ap, sym, ◌∙◌, arith, sum, zero-add}
+use Rattle.std.proofs.Common.{◌≡◌, ℕ, ◌+◌, ◌*◌, ◌^◌, ◌≤◌, Bool, true, false, List, [], flat_map, get_or, refl, ap, sym, ◌∙◌, arith, sum, zero-add}
 use Rattle.std.specs.Prelude.{if◌then◌else◌, slice_index}
 use Rattle.noc_topo.specs.Shape.{Grid}
 use Rattle.noc_topo.specs.Lists.{below}
@@ -10,7 +10,7 @@ use Rattle.noc_files.specs.Channels.{is_input}
 use Rattle.noc_files.specs.Stalls.{channel_counts}
 use Rattle.noc_files.specs.Summary.{column_entry, port_total}
 use Rattle.noc_files.proofs.BelowLemmas.{sum_more, sum_none}
-use Rattle.noc_files.proofs.TotalLemmas.{raised-as, raised-more, raised-none}
+use Rattle.noc_files.proofs.TotalLemmas.{raised-as, raised-more, raised-none, raised-up-to}
 use Rattle.noc_files.proofs.summary.add_port.Goals as goal
 
 -- the counts of a channel are those of the stall report
@@ -39,6 +39,13 @@ loop-vc-init c =
     let u = c.args.network.now in
     let so_far = λ (column : ℕ). sum (flat_map (column_entry u column c.args.router c.args.port) (below 0)) in
     raised-none so_far c.args.totals.now (λ column. sym (sum_none (column_entry u column c.args.router c.args.port)))
+
+pub add-requires : goal.add-requires
+add-requires c =
+    let u = c.args.network.now in
+    let so_far = λ (column : ℕ). sum (flat_map (column_entry u column c.args.router c.args.port) (below c.loop-vc.vc)) in
+    let few : c.loop-vc.vc ≤ MAX_CHANNELS = omega (arith, c.loop-vc.auto.vc-end, c.vcs-vc-end.ensures.value, c.vcs-vc-end.ensures.built.table.few_vcs) in
+    raised-up-to so_far c.loop-vc.vc (2 ^ 126) (2 ^ 127) c.args.totals.now c.loop-vc.totals c.loop-vc.invariant c.requires.few (omega (arith, few))
 
 pub loop-vc-preserved : goal.loop-vc-preserved
 loop-vc-preserved c =

@@ -1,4 +1,4 @@
-use Rattle.std.proofs.Common.{◌≡◌, ℕ, ◌+◌, ◌*◌, ◌≤◌, List, flat_map, refl, ap, sym, ◌∙◌, arith, sum}
+use Rattle.std.proofs.Common.{◌≡◌, ℕ, ◌+◌, ◌*◌, ◌^◌, ◌≤◌, List, flat_map, refl, ap, sym, ◌∙◌, arith, sum}
 use Rattle.noc_topo.specs.Shape.{ports}
 use Rattle.noc_topo.specs.Lists.{below}
 use Rattle.noc_packet.specs.declared.limits.TheConstants.{INDICES, MAX_CHANNELS}
@@ -7,7 +7,7 @@ use Rattle.noc_theory.specs.Network.{Run}
 use Rattle.noc_files.specs.Channels.{over_port}
 use Rattle.noc_files.specs.Summary.{column_entry, port_total, router_total}
 use Rattle.noc_files.proofs.BelowLemmas.{sum_more, sum_none}
-use Rattle.noc_files.proofs.TotalLemmas.{raised-as, raised-more, raised-none}
+use Rattle.noc_files.proofs.TotalLemmas.{raised-as, raised-more, raised-none, raised-up-to}
 use Rattle.noc_files.proofs.summary.add_router.Goals as goal
 
 -- the entries of a column on the ports of a router
@@ -27,6 +27,13 @@ loop-port-init c =
     let u = c.args.network.now in
     let so_far = λ (column : ℕ). sum (flat_map (entries_of u c.args.router column) (below 0)) in
     raised-none so_far c.args.totals.now (λ column. sym (sum_none (entries_of u c.args.router column)))
+
+pub add_port-requires-clause-few : goal.add_port-requires-clause-few
+add_port-requires-clause-few c =
+    let u = c.args.network.now in
+    let so_far = λ (column : ℕ). sum (flat_map (entries_of u c.args.router column) (below c.loop-port.port)) in
+    let few : c.loop-port.port * MAX_CHANNELS ≤ INDICES = omega (arith, c.loop-port.auto.port-end, c.ports-port-end.ensures.few) in
+    raised-up-to so_far (c.loop-port.port * MAX_CHANNELS) (2 ^ 125) (2 ^ 126) c.args.totals.now c.loop-port.totals c.loop-port.invariant c.requires.few (omega (arith, few))
 
 pub loop-port-preserved : goal.loop-port-preserved
 loop-port-preserved c =

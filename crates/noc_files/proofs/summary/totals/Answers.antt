@@ -1,4 +1,4 @@
-use Rattle.std.proofs.Common.{◌≡◌, ℕ, ◌+◌, ◌*◌, ◌<◌, List, flat_map, get_or, replicate, refl, ap, sym, ◌∙◌, arith, sum}
+use Rattle.std.proofs.Common.{◌≡◌, ℕ, ◌+◌, ◌*◌, ◌^◌, ◌<◌, ◌≤◌, List, flat_map, get_or, replicate, refl, ap, sym, ◌∙◌, arith, sum}
 use Rattle.std.proofs.lemmas.List.{ext_get_or, get_or-replicate}
 use Rattle.noc_topo.specs.Shape.{nodes}
 use Rattle.noc_topo.specs.Lists.{below, tabulate}
@@ -9,7 +9,7 @@ use Rattle.noc_theory.specs.Network.{Run}
 use Rattle.noc_files.specs.Channels.{over_router}
 use Rattle.noc_files.specs.Summary.{column_entry, column_total, router_total}
 use Rattle.noc_files.proofs.BelowLemmas.{sum_more, sum_none}
-use Rattle.noc_files.proofs.TotalLemmas.{raised-more, raised-none}
+use Rattle.noc_files.proofs.TotalLemmas.{raised-more, raised-none, raised-up-to}
 use Rattle.noc_files.proofs.summary.totals.Goals as goal
 
 -- the entries of a column on the routers
@@ -29,6 +29,14 @@ loop-router-init c =
     let u = c.args.network.now in
     let so_far = λ (column : ℕ). sum (flat_map (entries_of u column) (below 0)) in
     record { long = refl; raised = raised-none so_far (replicate 10 0) (λ column. sym (sum_none (entries_of u column))) }
+
+pub add_router-requires-clause-few : goal.add_router-requires-clause-few
+add_router-requires-clause-few c =
+    let u = c.args.network.now in
+    let so_far = λ (column : ℕ). sum (flat_map (entries_of u column) (below c.loop-router.router)) in
+    let few : c.loop-router.router * INDICES * 2 ^ 64 ≤ 2 ^ 125 = omega (arith, c.loop-router.auto.router-end, c.nodes-router-end.ensures.few) in
+    raised-up-to so_far (c.loop-router.router * INDICES) 0 (2 ^ 125) (replicate 10 0) c.loop-router.totals c.loop-router.invariant.raised
+    (λ k l. omega (arith, get_or-replicate {A = ℕ} 10 k 0 0 l)) (omega (arith, few))
 
 pub loop-router-preserved : goal.loop-router-preserved
 loop-router-preserved c =

@@ -1,17 +1,20 @@
-use Rattle.std.proofs.Common.{◌≡◌, ◌∙◌, ◌<◌, ◌≤◌, ◌+◌, ◌-◌, ◌++◌, ℕ, List, Err, Some, ap, ap₂, arith, flat_map, length, refl, subst}
+use Rattle.std.proofs.Common.{◌≡◌, ◌∙◌, ◌<◌, ◌≤◌, ◌+◌, ◌-◌, ◌++◌, ℕ, List, Err, Some, ap, ap₂, arith, flat_map, length, refl, subst, sym}
 use Rattle.std.specs.Prelude.{slice_get}
 use Rattle.std.specs.Io.KnownBytes.{Appends}
+use Rattle.std.specs.Option.{IfSome}
 use Rattle.std.proofs.lemmas.Result.{err_from_is_err_and}
 use Rattle.noc_topo.specs.Lists.{below}
+use Rattle.noc_topo.specs.Shape.{nodes}
 use Rattle.noc_theory.specs.Lockstep.{findings_before}
-use Rattle.noc_theory.specs.Network.{Run, Setup}
-use Rattle.noc_files.specs.Trace.{cycle_text, trace_header}
+use Rattle.noc_theory.specs.Network.{Run, Setup, size}
+use Rattle.noc_files.specs.Trace.{HaveChannels, cycle_text, trace_header}
 use Rattle.noc_files.specs.Writing.{Wrote}
 use Rattle.noc_files.proofs.BelowLemmas.{fault_at_number, long_more, took_more}
 use Rattle.noc_files.proofs.CutOffLemmas.{cut_in_cycle, cut_in_header}
 use Rattle.noc_files.proofs.PageLemmas.{added_none}
 use Rattle.noc_bytes.proofs.SinkLemmas.{Appends-keeps, fault_front}
-use Rattle.noc_files.proofs.TraceCycleLemmas.{IsKept, cycle_written, next_kept, opening_kept}
+use Rattle.noc_files.proofs.TraceCycleLemmas.{IsKept, cycle_written, few_kept, next_kept, opening_kept}
+use Rattle.noc_files.specs.declared.trace.Traced.{Traced}
 use Rattle.noc_files.proofs.trace.write_trace.Goals as goal
 
 pub returns-in_err-put_all-clause-text : goal.returns-in_err-put_all-clause-text
@@ -52,6 +55,24 @@ loop-init g c =
       counted = ap length text;
       short = omega arith;
     }
+
+pub put_cycle-requires-clause-router : goal.put_cycle-requires-clause-router
+put_cycle-requires-clause-router g c =
+    let same : c.cycle.new.self.net ≡ c.args.network.now.net = ap (λ (u : Run). u.net) c.cycle.ensures.value ∙ c.loop.invariant.net in
+    let there = subst (λ (z : Setup). IfSome c.args.trace.0.router (λ router. router < nodes z.relation.grid)) (sym same) c.requires.router in
+    subst (λ (t : Traced). IfSome t.router (λ router. router < nodes c.cycle.new.self.net.relation.grid)) (sym c.loop.invariant.traced) there
+
+pub keep-requires-clause-few : goal.keep-requires-clause-few
+keep-requires-clause-few g c =
+    let same : c.cycle.new.self.net ≡ c.args.network.now.net = ap (λ (u : Run). u.net) c.cycle.ensures.value ∙ c.loop.invariant.net in
+    let first = c.args.network.now.count in
+    subst (λ (z : Setup). length c.loop.trace.1 ≤ nodes z.relation.grid) (sym same)
+    (few_kept c.args.network.now.net c.args.trace.0 first (first + c.loop.counter) c.loop.trace.1 c.loop.invariant.kept)
+
+pub keep-requires-clause-long : goal.keep-requires-clause-long
+keep-requires-clause-long g c =
+    let same : c.cycle.new.self.net ≡ c.args.network.now.net = ap (λ (u : Run). u.net) c.cycle.ensures.value ∙ c.loop.invariant.net in
+    subst (λ (z : Setup). HaveChannels (size z) c.loop.trace.1) (sym same) c.loop.invariant.kept.long
 
 pub after-requires : goal.after-requires
 after-requires g c = omega (arith, c.loop.invariant.short, c.in-Err.ensures.few, c.loop-test.true, c.requires.cycles)

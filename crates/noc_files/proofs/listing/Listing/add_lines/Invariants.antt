@@ -1,7 +1,7 @@
 use Rattle.std.proofs.Common.{◌≡◌, ◌≤◌, ◌+◌, ◌*◌, ◌++◌, flat_map, length}
 use Rattle.noc_topo.specs.Lists.{below}
 use Rattle.noc_files.specs.declared.listing.TheConstants.{LONGEST_LINE}
-use Rattle.noc_files.proofs.listing.Listing.add_port.Given as goal
+use Rattle.noc_files.proofs.listing.Listing.add_lines.Given as goal
 
 abbrev pub invariant-loop-vc : goal.invariant-loop-vc
 invariant-loop-vc g l = record {

@@ -1,6 +1,6 @@
 use Rattle.std.proofs.Common.{arith}
 use Rattle.noc_files.proofs.PageLemmas.{added_more, added_none}
-use Rattle.noc_files.proofs.listing.Listing.add_port.Goals as goal
+use Rattle.noc_files.proofs.listing.Listing.add_lines.Goals as goal
 
 pub loop-vc-init : goal.loop-vc-init
 loop-vc-init g c = record { said = added_none (g.L.Lines.said c.args.self.now.lines.now c.args.router c.args.port) c.args.page.now; short = omega arith }
