@@ -10,7 +10,8 @@ use Rattle.noc_sets.specs.Column.{Column, RouterMarks}
 use Rattle.noc_sets.specs.Grants.{HasAllocated, HasGranted, IsBound, KeepsInput, KeepsOutput}
 use Rattle.noc_sets.specs.Sets.{least, less}
 use Rattle.noc_sets.specs.Turns.{in_turn}
-use Rattle.noc_sets.proofs.MemberLemmas.{eq-turned, least_is, or-false, or-left, or-right, same-word}
+use Rattle.noc_sets.proofs.MemberLemmas.{eq-turned, least_is, or-false, or-left, or-right}
+use Rattle.noc_sets.proofs.TurnLemmas.{first-among}
 use Rattle.noc_columns.specs.Allotted.{Allotment, HasAllotted, ShowsOwned, allotted_after, allotted_before, allotted_marks, given_to}
 use Rattle.noc_columns.specs.Grants.{first_of}
 use Rattle.noc_columns.specs.Words.{set_below}
@@ -20,16 +21,14 @@ use Rattle.noc_columns.proofs.AskLemmas.{asks-idle, asks-wait, in-word}
 use Rattle.noc_columns.proofs.ChannelLemmas.{part, port-below, whole}
 use Rattle.noc_columns.proofs.PickLemmas.{Found, find-first, none-each}
 use Rattle.noc_columns.proofs.PortLemmas.{lowest-alone, some-member}
-use Rattle.noc_columns.proofs.RouterLemmas.{below-fits, first-among}
+use Rattle.noc_columns.proofs.RouterLemmas.{below-fits}
 use Rattle.noc_columns.proofs.SetLemmas.{below-members}
-
-zero-or : (a : ℕ) → bit_or 0 a ≡ a
-zero-or a = same-word _ a (λ k. either_members 0 a k ∙ ap (λ b. b || has_bit a k) (has_bit-zero k))
+use Rattle.noc_columns.proofs.SourceLemmas.{none-or}
 
 module _ (size vcs : ℕ) (a b : Allotment) (some : 0 < vcs) (few : size ≤ 64) (waits : MembersAreBelow size a.waiting) (clear : a.granted ≡ 0) (has : HasAllotted vcs a b) where
   -- ---- who wins an output channel
   pub granted-is : b.granted ≡ has.granted
-  granted-is = has.granted_is ∙ ap (λ x. bit_or x has.granted) clear ∙ zero-or has.granted
+  granted-is = has.granted_is ∙ ap (λ x. bit_or x has.granted) clear ∙ none-or has.granted
 
   given-is : (o k : ℕ) → has_bit has.outs o ≡ true → has_bit (first_of has.requests a.turn o) k ≡ true → has_bit b.granted k ≡ true
   given-is o k out won = ap (λ w. has_bit w k) granted-is ∙ has.given o k out won
@@ -178,7 +177,7 @@ module _ (size vcs : ℕ) (a b : Allotment) (some : 0 < vcs) (few : size ≤ 64)
       marks = has-granted;
       outs_fit = has.outs_fit;
       granted_fit = fits-below size b.granted few granted-below;
-      lost = has.lost_is ∙ ap (λ x. bit_or x (less has.inputs has.granted)) unlost ∙ zero-or (less has.inputs has.granted) ∙ ap (less has.inputs) (sym granted-is);
+      lost = has.lost_is ∙ ap (λ x. bit_or x (less has.inputs has.granted)) unlost ∙ none-or (less has.inputs has.granted) ∙ ap (less has.inputs) (sym granted-is);
       column = λ x. record c { waiting = a.waiting; idle = has.idle x; wanted = b.wanted; supplied = bit_or c.supplied b.granted };
     }
 

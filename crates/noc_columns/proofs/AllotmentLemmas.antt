@@ -10,6 +10,7 @@ use Rattle.noc_alloc.specs.Members.{MembersAreBelow}
 use Rattle.noc_sets.specs.Grants.{AreAsks}
 use Rattle.noc_sets.specs.Sets.{less}
 use Rattle.noc_sets.proofs.MemberLemmas.{below_fits}
+use Rattle.noc_sets.proofs.TurnLemmas.{first-among}
 use Rattle.noc_columns.specs.Allotted.{Allotment, HasAllotted, HasAllottedOne, MayAllot, allotment_at}
 use Rattle.noc_columns.specs.Grants.{AreGranted, ArePointersPast}
 use Rattle.noc_columns.specs.Picks.{channels_of}
@@ -21,7 +22,6 @@ use Rattle.noc_columns.specs.declared.ports.RouterPorts.{RouterPorts}
 use Rattle.noc_columns.specs.declared.supply.Digits.{Digits}
 use Rattle.noc_columns.proofs.AskLemmas.{asks-wait, in-word}
 use Rattle.noc_columns.proofs.GrantLemmas.{granted-none}
-use Rattle.noc_columns.proofs.RouterLemmas.{first-among}
 use Rattle.noc_columns.proofs.SetLemmas.{below-members}
 use Rattle.noc_columns.proofs.SupplyLemmas.{number}
 use Rattle.noc_columns.proofs.TableLemmas.{less-none}

@@ -11,13 +11,13 @@ use Rattle.noc_sets.specs.Grants.{AreAsks}
 use Rattle.noc_sets.specs.Sets.{least, less, lowest}
 use Rattle.noc_sets.specs.Turns.{first_bit}
 use Rattle.noc_sets.proofs.MemberLemmas.{least_below, least_is, power-members}
+use Rattle.noc_sets.proofs.TurnLemmas.{first-among}
 use Rattle.noc_columns.specs.Grants.{AreGranted, ArePointersPast, IsNumbered, first_of}
 use Rattle.noc_columns.specs.Words.{Numbering}
 use Rattle.noc_columns.specs.declared.given.Grants.{Grants}
 use Rattle.noc_columns.proofs.AskLemmas.{asking-all, asking-opened, asking-stepped, asks-requests}
 use Rattle.noc_columns.proofs.GrantLemmas.{first-is, granted-next, granted-none, least-one-is}
 use Rattle.noc_columns.proofs.LoopLemmas.{left-members, was-left}
-use Rattle.noc_columns.proofs.RouterLemmas.{first-among}
 use Rattle.noc_columns.proofs.TableLemmas.{less-none, less-self}
 
 -- a set with one member

@@ -14,6 +14,7 @@ use Rattle.noc_sets.specs.Sets.{least, of_one}
 use Rattle.noc_sets.specs.Turns.{in_turn}
 use Rattle.noc_sets.specs.Unions.{some_below}
 use Rattle.noc_sets.proofs.MemberLemmas.{lowest-one, power-members, same-word}
+use Rattle.noc_sets.proofs.TurnLemmas.{first-among}
 use Rattle.noc_sets.proofs.UnionLemmas.{union-members}
 use Rattle.noc_columns.specs.Arrivals.{given_back}
 use Rattle.noc_columns.specs.Switch.{ShowsSends}
@@ -21,7 +22,6 @@ use Rattle.noc_columns.proofs.LoopLemmas.{least-same}
 use Rattle.noc_columns.proofs.PassLemmas.{some-same}
 use Rattle.noc_columns.proofs.PickLemmas.{apart, find-first, none-each, some-each}
 use Rattle.noc_columns.proofs.PortLemmas.{lowest-least}
-use Rattle.noc_columns.proofs.RouterLemmas.{first-among}
 
 -- what a set with one member has
 one-of : (i : ℕ) (f : ℕ → ℕ) → i < 64 → of_one (2 ^ i) f ≡ f i

@@ -44,9 +44,6 @@ module _ (words : List ℕ) (index router : ℕ) (long : length words ≡ 72) (f
   pub put-is : (k r : ℕ) → has_bit (word k (set words index (bit_or (word index words) (1 * 2 ^ router % 2 ^ 64)))) r ≡ ((nat_eq k index && nat_eq r router) || has_bit (word k words) r)
   put-is k r = at (cases_eq k index)
     where
-      next : ℕ
-      next = bit_or (word index words) (1 * 2 ^ router % 2 ^ 64)
-
       turn : (a b : Bool) → (a || b) ≡ (b || a)
       turn true true = refl
       turn true false = refl

@@ -7,6 +7,7 @@ use Rattle.noc_packet.proofs.SetLemmas.{both_members, either_members, has_bit-ze
 use Rattle.noc_sets.specs.Sets.{less, lowest}
 use Rattle.noc_sets.proofs.MemberLemmas.{or-false}
 use Rattle.noc_columns.specs.Words.{AreApart, Numbering, set_of, word}
+use Rattle.noc_columns.proofs.AskLemmas.{asked-none}
 use Rattle.noc_columns.proofs.LoopLemmas.{and-true, but_lowest-is, left-members, none-left}
 use Rattle.noc_columns.proofs.MarkLemmas.{entry-put}
 use Rattle.noc_columns.proofs.SetLemmas.{below-members}
@@ -89,12 +90,6 @@ left-some count words left rest are i e = at (cases_eq (word i left) 0)
     at (inl none) = absurd (true≢false (sym e ∙ are.some i (are.few i e) ∙ ap not (eq-eqb (word i left) 0 none)))
     at (inr more) = omega (arith, more)
 
-no-word : (w : ℕ) → not (nat_eq w 0) ≡ false → w ≡ 0
-no-word w f = elim (cases_eq w 0) [
-  | inl z ↦ z
-  | inr more ↦ absurd (false≢true (sym f ∙ ap not (ne_eqb w 0 more)))
-]
-
 pub left-step : (count : ℕ) (words left : List ℕ) (rest : ℕ) (left' : List ℕ) (rest' i s : ℕ) → AreLeft count words left rest
     → ((k r : ℕ) → has_bit (word k left') r ≡ (has_bit (word k left) r && not (nat_eq k i && nat_eq r s)))
     → ((k : ℕ) → has_bit rest' k ≡ (has_bit rest k && not (nat_eq (word k left') 0)))
@@ -108,12 +103,12 @@ left-step count words left rest left' rest' i s are next is = record {
     at : (k : ℕ) → k < count → (has_bit rest k ≡ true) ⊎ (has_bit rest k ≡ false) → (has_bit rest k && not (nat_eq (word k left') 0)) ≡ not (nat_eq (word k left') 0)
     at k l (inl e) = ap (λ b. b && not (nat_eq (word k left') 0)) e
     at k l (inr e) =
-        let none = no-word (word k left) (sym (are.some k l) ∙ e) in
+        let none = asked-none (word k left) (sym (are.some k l) ∙ e) in
         let gone : word k left' ≡ 0 = same_set _ _ (λ r. next k r ∙ ap (λ w. has_bit w r && not (nat_eq k i && nat_eq r s)) none ∙ ap (λ b. b && not (nat_eq k i && nat_eq r s)) (has_bit-zero r) ∙ sym (has_bit-zero r)) in
         ap (λ b. b && not (nat_eq (word k left') 0)) e ∙ sym (ap not (eq-eqb (word k left') 0 gone))
 
 pub left-none : (count : ℕ) (words left : List ℕ) (rest : ℕ) → AreLeft count words left rest → rest ≡ 0 → (i : ℕ) → i < count → word i left ≡ 0
-left-none count words left rest are none i l = no-word (word i left) (sym (are.some i l) ∙ ap (λ w. has_bit w i) none ∙ has_bit-zero i)
+left-none count words left rest are none i l = asked-none (word i left) (sym (are.some i l) ∙ ap (λ w. has_bit w i) none ∙ has_bit-zero i)
 
 -- ---- which channels of a router it has come to
 abbrev pub come : Numbering → ℕ → List ℕ → List ℕ → ℕ → Bool

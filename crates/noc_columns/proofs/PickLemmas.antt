@@ -3,11 +3,11 @@ use Rattle.std.proofs.Common.{◌≡◌, ◌≢◌, ℕ, zero, suc, ◌+◌, ◌
 use Rattle.std.specs.Prelude.{◌⊎◌, ◌&&◌, ◌||◌, not, nat_eq, nat_lt, if◌then◌else◌}
 use Rattle.std.proofs.lemmas.Bool.{cases_eq, cases_lt, lt-ltb, le-ltb, eq-eqb, ne_eqb, true≢false}
 use Rattle.noc_packet.specs.Set.{has_bit, IsLeast}
-use Rattle.noc_packet.proofs.SetLemmas.{both_members, either_members, has_bit-zero}
+use Rattle.noc_packet.proofs.SetLemmas.{both_members, either_members, first_of_both, has_bit-zero}
 use Rattle.noc_sets.specs.Sets.{less, lowest}
 use Rattle.noc_sets.specs.Turns.{first_bit, in_turn}
 use Rattle.noc_sets.specs.Unions.{some_below, union_from}
-use Rattle.noc_sets.proofs.MemberLemmas.{less_members, lowest_members, or-false, same-word, zero_members}
+use Rattle.noc_sets.proofs.MemberLemmas.{less_members, lowest_members, or-false, or-none, same-word, zero_members}
 use Rattle.noc_columns.specs.Picks.{turn_word}
 use Rattle.noc_columns.specs.Words.{Numbering, set_below, set_of, word}
 use Rattle.noc_columns.proofs.LoopLemmas.{and-false, and-true, not-not, or-true}
@@ -15,13 +15,9 @@ use Rattle.noc_columns.proofs.PassLemmas.{some-same}
 use Rattle.noc_columns.proofs.SetLemmas.{below-both, below-members, below-same}
 
 -- ---- the first of a test
-or-both : (a b : Bool) → (a || b) ≡ false → (a ≡ false) × (b ≡ false)
-or-both true b e = absurd (true≢false e)
-or-both false b e = (refl, e)
-
 pub none-each : (n : ℕ) (test : ℕ → Bool) → some_below n test ≡ false → (k : ℕ) → k < n → test k ≡ false
 none-each zero test e k l = absurd (omega arith)
-none-each (suc n) test e k l = let both = or-both (some_below n test) (test n) e in at both (λ j. none-each n test both.0 k j) (cases_eq k n)
+none-each (suc n) test e k l = let both = or-none (some_below n test) (test n) e in at both (λ j. none-each n test both.0 k j) (cases_eq k n)
   where
     at : ((some_below n test ≡ false) × (test n ≡ false)) → (k < n → test k ≡ false) → (k ≡ n) ⊎ (k ≢ n) → test k ≡ false
     at both before (inl same) = ap test same ∙ both.1
@@ -52,9 +48,6 @@ find-first (suc n) test = at (find-first n test) (test n) refl
 pub chain-lowest : (n : ℕ) (test : ℕ → Bool) → set_below n (λ c. test c && not (some_below c test)) ≡ lowest (set_below n test)
 chain-lowest n test = at (find-first n test)
   where
-    chain : ℕ → Bool
-    chain c = test c && not (some_below c test)
-
     at : Found n test → set_below n (λ c. test c && not (some_below c test)) ≡ lowest (set_below n test)
     at (inl none) =
         let no = none-each n test none in
@@ -187,10 +180,6 @@ module _ (n : Numbering) (r first : ℕ) (ready ahead : List ℕ) (is : has_bit 
       unfold-test : (c : ℕ) → test c ≡ (has_bit (word (n.index c) ready) r && (has_bit (word (n.index c) ahead) r || not (has_bit first r)))
       unfold-test c = refl
 
-      and-left : (a b : Bool) → (a && b) ≡ true → a ≡ true
-      and-left true b e = refl
-      and-left false b e = absurd (true≢false (sym e))
-
       and-left-or : (a b x : Bool) → (a && b) ≡ true → (a && (b || x)) ≡ true
       and-left-or true true x e = refl
       and-left-or true false x e = absurd (true≢false (sym e))
@@ -201,7 +190,7 @@ module _ (n : Numbering) (r first : ℕ) (ready ahead : List ℕ) (is : has_bit 
         | inl none ↦ absurd (true≢false (sym e ∙ is ∙ none))
         | inr found ↦
             some-each n.size test found.0 found.1 (unfold-test found.0 ∙ and-left-or (can-is found.0) (has_bit (word (n.index found.0) ahead) r) (not (has_bit first r)) found.2)
-            ∙ sym (some-each n.size can-is found.0 found.1 (and-left (can-is found.0) (has_bit (word (n.index found.0) ahead) r) found.2))
+            ∙ sym (some-each n.size can-is found.0 found.1 (first_of_both (can-is found.0) (has_bit (word (n.index found.0) ahead) r) found.2))
       ]
       all false e = some-same n.size test can-is (λ c l. unfold-test c ∙ ap (λ x. can-is c && (has_bit (word (n.index c) ahead) r || not x)) e ∙ ap (λ x. can-is c && x) (or-true (has_bit (word (n.index c) ahead) r)) ∙ and-true (can-is c))
 

@@ -1,17 +1,15 @@
 -- The picks of the ports of a router.
-use Rattle.std.proofs.Common.{◌≡◌, ◌⊎◌, ℕ, zero, suc, ◌+◌, ◌-◌, ◌*◌, ◌/◌, ◌%◌, ◌^◌, ◌<◌, ◌≤◌, Bool, true, false, List, arith, ap, ap₂, sym, ◌∙◌, refl, inl, inr, pow-suc, bit_and}
-use Rattle.std.specs.Prelude.{◌&&◌, not, nat_eq, if◌then◌else◌}
-use Rattle.std.proofs.lemmas.Bool.{and_parts, cases_lt, false≢true, le-ltb}
+use Rattle.std.proofs.Common.{◌≡◌, ◌⊎◌, ℕ, zero, suc, ◌+◌, ◌-◌, ◌*◌, ◌/◌, ◌%◌, ◌^◌, ◌<◌, ◌≤◌, Bool, true, false, List, arith, ap, ap₂, sym, ◌∙◌, inl, inr, pow-suc}
+use Rattle.std.specs.Prelude.{◌&&◌, if◌then◌else◌}
+use Rattle.std.proofs.lemmas.Bool.{cases_lt, false≢true, le-ltb}
 use Rattle.std.proofs.lemmas.Nat.{div-mul-add, mod-mul-add, mod_below, or_lt, pow_pos}
 use Rattle.std.proofs.Math.Pow.{pow_mono}
 use Rattle.noc_topo.specs.Lists.{is_some_of}
 use Rattle.noc_packet.specs.Set.{has_bit}
-use Rattle.noc_packet.proofs.SetLemmas.{both_members}
 use Rattle.noc_alloc.specs.Members.{MembersAreBelow}
 use Rattle.noc_alloc.proofs.ArbiterLemmas.{first_in_turn-same}
-use Rattle.noc_sets.specs.Turns.{ArePicked, ShowsPointer, first_bit, in_turn}
-use Rattle.noc_sets.proofs.MemberLemmas.{less_members}
-use Rattle.noc_sets.proofs.TurnLemmas.{first-members}
+use Rattle.noc_sets.specs.Turns.{ArePicked, ShowsPointer, first_bit}
+use Rattle.noc_sets.proofs.TurnLemmas.{first-among, first-members}
 use Rattle.noc_columns.specs.Picks.{channels_of, port_of}
 use Rattle.noc_columns.specs.Words.{set_below, set_of, word}
 use Rattle.noc_columns.specs.declared.ports.RouterPorts.{RouterPorts}
@@ -30,16 +28,6 @@ below-fits (suc n) test =
     at : (b : Bool) → (if b then 2 ^ n else 0) < 2 ^ suc n
     at true = let e : 2 ^ suc n ≡ 2 ^ n * 2 = pow-suc 2 n in omega (arith, e, pow_pos n)
     at false = pow_pos (suc n)
-
-pub first-among : (requests mask k : ℕ) → has_bit (first_bit requests mask) k ≡ true → has_bit requests k ≡ true
-first-among requests mask k e = at (nat_eq (bit_and requests mask) 0) refl
-  where
-    here : has_bit (in_turn requests mask) k ≡ true
-    here = (and_parts (has_bit (in_turn requests mask) k) (not (has_bit (in_turn requests mask - 1) k)) (sym (less_members (in_turn requests mask) (in_turn requests mask - 1) k) ∙ e)).0
-
-    at : (b : Bool) → nat_eq (bit_and requests mask) 0 ≡ b → has_bit requests k ≡ true
-    at true none = ap (λ b. has_bit (if b then requests else bit_and requests mask) k) (sym none) ∙ here
-    at false some = (and_parts (has_bit requests k) (has_bit mask k) (sym (both_members requests mask k) ∙ ap (λ b. has_bit (if b then requests else bit_and requests mask) k) (sym some) ∙ here)).0
 
 module _ (ports : RouterPorts) (r : ℕ) where
   -- a channel of a router is one of its port

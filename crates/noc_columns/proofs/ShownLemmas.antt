@@ -5,6 +5,7 @@ use Rattle.std.proofs.lemmas.Bool.{not-true}
 use Rattle.noc_packet.specs.Set.{has_bit}
 use Rattle.noc_sets.specs.Column.{RouterMarks}
 use Rattle.noc_sets.specs.Turns.{in_turn}
+use Rattle.noc_sets.proofs.TurnLemmas.{first-among}
 use Rattle.noc_columns.specs.Picks.{HasPick, HavePicked, IsPicked, SendByVcs, channels_of, port_of}
 use Rattle.noc_columns.specs.Supply.{digits_by, number_in}
 use Rattle.noc_columns.specs.Switch.{PickVcs, ShowsPicks, ShowsSends, picks_in}
@@ -15,7 +16,7 @@ use Rattle.noc_columns.specs.declared.supply.Digits.{Digits}
 use Rattle.noc_columns.specs.declared.supply.Sends.{Sends}
 use Rattle.noc_columns.proofs.PastLemmas.{first-some}
 use Rattle.noc_columns.proofs.PortLemmas.{lowest-alone, member-below}
-use Rattle.noc_columns.proofs.RouterLemmas.{first-among, part-is, port-members}
+use Rattle.noc_columns.proofs.RouterLemmas.{part-is, port-members}
 use Rattle.noc_columns.proofs.SupplyLemmas.{number}
 
 -- a channel's number is that in its port

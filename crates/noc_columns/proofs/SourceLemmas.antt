@@ -56,7 +56,7 @@ source-begun starts true last due left queue d l q left_is last_is queue_is due_
 source-begun starts false last due left queue d l q left_is last_is queue_is due_is = source-sent starts false last due left queue d l q left_is last_is queue_is due_is
 
 -- ---- what a router makes of its source
-none-or : (a : ℕ) → bit_or 0 a ≡ a
+pub none-or : (a : ℕ) → bit_or 0 a ≡ a
 none-or a = same_set _ _ (λ k. either_members 0 a k ∙ ap (λ b. b || has_bit a k) (has_bit-zero k))
 
 module _ (starts : List Start) (s : Source) where

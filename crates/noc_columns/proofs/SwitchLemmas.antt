@@ -14,6 +14,7 @@ use Rattle.noc_sets.specs.Sets.{least, lowest, of_one}
 use Rattle.noc_sets.specs.Turns.{in_turn}
 use Rattle.noc_sets.specs.Unions.{rest_from, some_below, union_from}
 use Rattle.noc_sets.proofs.MemberLemmas.{below_fits, least_is, less_members, lowest_members, power-members, same-word, zero_members}
+use Rattle.noc_sets.proofs.TurnLemmas.{first-among}
 use Rattle.noc_columns.specs.Switch.{HasTraversed, PortPicks, ShowsOutputs, ShowsPicks, asks_for, channels_at, leaves_by, switched_effects, switched_marks, taken_by}
 use Rattle.noc_columns.specs.Words.{set_below}
 use Rattle.noc_columns.proofs.ChannelLemmas.{channel-below, channel-eq, part, port-below, whole}
@@ -21,9 +22,10 @@ use Rattle.noc_columns.proofs.PassLemmas.{some-same}
 use Rattle.noc_columns.proofs.PastLemmas.{first-before, first-some}
 use Rattle.noc_columns.proofs.PickLemmas.{apart, find-first, none-each, union-members}
 use Rattle.noc_columns.proofs.PortLemmas.{lowest-alone, lowest-least, one-both, some-member}
-use Rattle.noc_columns.proofs.RouterLemmas.{below-fits, first-among}
+use Rattle.noc_columns.proofs.RouterLemmas.{below-fits}
 use Rattle.noc_columns.proofs.SetLemmas.{below-members, below-same}
 use Rattle.noc_columns.proofs.LoopLemmas.{and-false, and-true}
+use Rattle.noc_sets.proofs.UnionLemmas.{some-none}
 
 -- a test of all with a fact beside it
 some-and : (n : ℕ) (b : Bool) (test : ℕ → Bool) → some_below n (λ k. b && test k) ≡ (b && some_below n test)
@@ -33,10 +35,6 @@ some-and (suc n) b test = ap (λ x. x || (b && test n)) (some-and n b test) ∙ 
     at : (x y z : Bool) → ((x && y) || (x && z)) ≡ (x && (y || z))
     at true y z = refl
     at false y z = refl
-
-some-none : (n : ℕ) (test : ℕ → Bool) → ((k : ℕ) → k < n → test k ≡ false) → some_below n test ≡ false
-some-none zero test none = refl
-some-none (suc n) test none = ap₂ (λ a b. a || b) (some-none n test (λ k l. none k (omega arith))) (none n (omega arith))
 
 next-le : (d c : ℕ) → nat_le (d + 1) c ≡ nat_lt d c
 next-le d c = elim (cases_lt d c) [ inl l ↦ le-leb (d + 1) c (omega (arith, l)) ∙ sym (lt-ltb d c l) | inr l ↦ lt-leb (d + 1) c (omega (arith, l)) ∙ sym (le-ltb d c l) ]

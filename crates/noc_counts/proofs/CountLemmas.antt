@@ -4,6 +4,7 @@ use Rattle.std.specs.Prelude.{slice_index_or}
 use Rattle.noc_packet.specs.Set.{has_bit}
 use Rattle.noc_packet.proofs.SetLemmas.{has_bit-zero}
 use Rattle.noc_topo.specs.Lists.{one_if}
+use Rattle.noc_topo.proofs.ListLemmas.{one-small}
 use Rattle.noc_columns.specs.Words.{word}
 use Rattle.noc_counts.specs.Counted.{HasAdded, HasCounted, HasNoted, added_in, noted_in, set_in}
 use Rattle.noc_counts.specs.Low.{low_at, set_sum}
@@ -51,10 +52,6 @@ pub set-four : (sets : List (List ℕ)) (a b c d : List ℕ) (j r : ℕ) → sli
 set-four sets a b c d j r ea eb ec ed =
     let one = λ (s : List ℕ). one_if (has_bit (word j s) r) in
     omega (arith, set-none sets j r, set-next sets 0 j r, set-next sets 1 j r, set-next sets 2 j r, set-next sets 3 j r, ap one ea, ap one eb, ap one ec, ap one ed)
-
-pub one-few : (b : Bool) → one_if b ≤ 1
-one-few true = omega arith
-one-few false = omega arith
 
 pub one-none : (w r : ℕ) → w ≡ 0 → one_if (has_bit w r) ≡ 0
 one-none w r is = ap (λ v. one_if (has_bit v r)) is ∙ ap one_if (has_bit-zero r)
@@ -150,7 +147,7 @@ pub repeated : (times l l0 t t1 t2 : ℕ) (carry set : Bool) → l + 16 * one_if
     → (t1 + times / 16 < 2 ^ 32 → t2 ≡ t1 + times / 16 * one_if set)
     → l0 + 16 * t + times < 2 ^ 32 → l + 16 * t2 ≡ l0 + 16 * t + times * one_if set
 repeated times l l0 t t1 t2 carry set e f g small =
-    at set (one_if carry) (one-few carry) e f g
+    at set (one_if carry) (one-small carry) e f g
   where
     at : (b : Bool) (c : ℕ) → c ≤ 1 → l + 16 * c ≡ l0 + times % 16 * one_if b → (t + 1 < 2 ^ 32 → t1 ≡ t + 1 * c) → (t1 + times / 16 < 2 ^ 32 → t2 ≡ t1 + times / 16 * one_if b)
         → l + 16 * t2 ≡ l0 + 16 * t + times * one_if b

@@ -22,6 +22,7 @@ use Rattle.noc_columns.specs.declared.channels.Decided.{Decided}
 use Rattle.noc_columns.specs.declared.channels.Links.{Links}
 use Rattle.noc_columns.specs.declared.channels.Standing.{Standing}
 use Rattle.noc_columns.specs.declared.channels.Verdicts.{Verdicts}
+use Rattle.noc_columns.proofs.LoopLemmas.{and-false, or-true}
 use Rattle.noc_cycles.specs.Concluding.{HasConcludedHeld}
 use Rattle.noc_cycles.specs.Deciding.{HasDecidedHeld, undecided}
 use Rattle.noc_cycles.specs.Held.{Held, ShowsStill}
@@ -30,10 +31,6 @@ use Rattle.noc_counts.proofs.FoundLemmas.{ShowsFound, least-power}
 use Rattle.noc_counts.specs.Findings.{outs_of}
 use Rattle.noc_counts.proofs.OutLemmas.{asked-one, asked-same, asked-won, winner-of}
 use Rattle.noc_counts.proofs.VerdictLemmas.{AreAmong, IsTold}
-
-and-no : (b : Bool) → (b && false) ≡ false
-and-no true = refl
-and-no false = refl
 
 -- ---- a channel that does not wait wins nothing
 module _ (size : ℕ) (port : ℕ → ℕ) (a b : Allocation) (has : HasAllocated size port a b) (k : ℕ) (idles : has_bit a.column.waiting k ≡ false) where
@@ -129,13 +126,13 @@ module _ (pattern : Pattern) (layout : Layout) (sets : ℕ → ℕ → ℕ) (s :
         where
           at : (b : Bool) → has_bit s.column.active i ≡ b → (has_bit s.column.waiting i && b) ≡ false
           at true e = ap (λ x. x && true) (idles i e)
-          at false e = and-no (has_bit s.column.waiting i)
+          at false e = and-false (has_bit s.column.waiting i)
 
       not-head : (i : ℕ) → has_bit s.column.waiting i ≡ true → has_bit (lane_heads s.filled s.column) i ≡ false
       not-head i e =
           less_members s.filled (bit_or s.column.waiting s.column.active) i
           ∙ ap (λ b. has_bit s.filled i && not b) (either_members s.column.waiting s.column.active i ∙ ap (λ b. b || has_bit s.column.active i) e)
-          ∙ and-no (has_bit s.filled i)
+          ∙ and-false (has_bit s.filled i)
 
       set-is : (i : ℕ) → has_bit s.column.waiting i ≡ true → n.set i ≡ s.marks.set i
       set-is i e =
@@ -210,11 +207,7 @@ module _ (pattern : Pattern) (layout : Layout) (sets : ℕ → ℕ → ℕ) (s :
         waits-below k e = below k (ap (λ m. has_bit m k) (sym waits-same) ∙ e)
 
         owned : (k : ℕ) → has_bit granted k ≡ true → has_bit (bit_or a.inputs.active granted) k ≡ true
-        owned k e = either_members a.inputs.active granted k ∙ ap (λ b. has_bit a.inputs.active k || b) e ∙ or-yes (has_bit a.inputs.active k)
-          where
-            or-yes : (b : Bool) → (b || true) ≡ true
-            or-yes true = refl
-            or-yes false = refl
+        owned k e = either_members a.inputs.active granted k ∙ ap (λ b. has_bit a.inputs.active k || b) e ∙ or-true (has_bit a.inputs.active k)
 
         number-fits : (k : ℕ) → has_bit granted k ≡ true → number k < 64
         number-fits k e =

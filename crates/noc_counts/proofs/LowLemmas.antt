@@ -127,11 +127,3 @@ four-none words (suc (suc (suc (suc k)))) e few = absurd (omega arith)
 pub times-sum : (n : ℕ) (b : Bool) → n < 16 → n % 2 * one_if b + 2 * (n / 2 % 2 * one_if b) + 4 * (n / 4 % 2 * one_if b) + 8 * (n / 8 % 2 * one_if b) ≡ n * one_if b
 times-sum n true few = omega arith
 times-sum n false few = omega arith
-
-pub odd-one : (n : ℕ) (b : Bool) → n % 2 ≡ 1 → one_if b ≡ n % 2 * one_if b
-odd-one n true e = omega arith
-odd-one n false e = omega arith
-
-pub even-none : (n : ℕ) (b : Bool) → n % 2 ≢ 1 → 0 ≡ n % 2 * one_if b
-even-none n true e = omega arith
-even-none n false e = omega arith

@@ -8,6 +8,7 @@ use Rattle.noc_packet.specs.Set.{has_bit}
 use Rattle.noc_packet.proofs.SetLemmas.{has_bit-one, has_bit-none, has_bit-zero}
 use Rattle.noc_topo.specs.Lists.{one_if}
 use Rattle.noc_columns.specs.Words.{word}
+use Rattle.noc_columns.proofs.LoopLemmas.{and-false, and-true}
 use Rattle.noc_counts.specs.Tallies.{at_level, bit_level, carry_over, number_by, sum_of}
 use Rattle.noc_counts.proofs.TallyLemmas.{added-three, number-none, number-next, number-same}
 
@@ -64,16 +65,8 @@ pending-alike bits set m j k few =
     ∙ ap (λ n. number_by (bit_level bits j k) 30 + n) (at (has_bit (word j set) k))
   where
     at : (b : Bool) → number_by (λ i. one_if (has_bit m i && b)) 30 ≡ m * one_if b
-    at true = number-same _ _ 30 (λ i l. ap one_if (and-yes (has_bit m i))) ∙ number-whole m few ∙ (let e : m ≡ m * 1 = omega arith in e)
-      where
-        and-yes : (x : Bool) → (x && true) ≡ x
-        and-yes true = refl
-        and-yes false = refl
-    at false = number-same _ _ 30 (λ i l. ap one_if (and-no (has_bit m i))) ∙ zeros 30 ∙ (let e : 0 ≡ m * 0 = omega arith in e)
-      where
-        and-no : (x : Bool) → (x && false) ≡ false
-        and-no true = refl
-        and-no false = refl
+    at true = number-same _ _ 30 (λ i l. ap one_if (and-true (has_bit m i))) ∙ number-whole m few ∙ (let e : m ≡ m * 1 = omega arith in e)
+    at false = number-same _ _ 30 (λ i l. ap one_if (and-false (has_bit m i))) ∙ zeros 30 ∙ (let e : 0 ≡ m * 0 = omega arith in e)
 
 -- ---- the whole count
 -- a set or none

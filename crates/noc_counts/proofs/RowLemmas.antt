@@ -1,7 +1,5 @@
 -- The words of a group of four channels, verdict by verdict.
-use Rattle.std.proofs.Common.{◌≡◌, ◌≢◌, ◌⊎◌, ℕ, zero, suc, ◌+◌, ◌*◌, ◌/◌, ◌%◌, ◌<◌, ◌≤◌, false, List, refl, ap, sym, ◌∙◌, arith, bit_or, inl, inr}
-use Rattle.std.specs.Prelude.{nat_eq, not}
-use Rattle.std.proofs.lemmas.Bool.{cases_eq, false≢true, ne_eqb}
+use Rattle.std.proofs.Common.{◌≡◌, ℕ, zero, suc, ◌+◌, ◌*◌, ◌/◌, ◌%◌, ◌<◌, ◌≤◌, List, refl, ap, arith, bit_or}
 use Rattle.std.proofs.lemmas.Nat.{le_or_l, le_or_r}
 use Rattle.noc_sets.specs.Counts.{ByVerdict}
 use Rattle.noc_columns.specs.Words.{word}
@@ -18,13 +16,6 @@ left-none a b e = let l : a ≤ bit_or a b = le_or_l a b in omega (arith, e, l)
 
 pub right-none : (a b : ℕ) → bit_or a b ≡ 0 → b ≡ 0
 right-none a b e = let l : b ≤ bit_or a b = le_or_r a b in omega (arith, e, l)
-
-pub is-none : (x : ℕ) → not (nat_eq x 0) ≡ false → x ≡ 0
-is-none x e = at (cases_eq x 0)
-  where
-    at : (x ≡ 0) ⊎ (x ≢ 0) → x ≡ 0
-    at (inl zero-is) = zero-is
-    at (inr other) = absurd (false≢true (sym e ∙ ap not (ne_eqb x 0 other)))
 
 -- what is told of the places of a channel
 pub lane-same : (f g : ℕ → ℕ) (l : ℕ) → l < 4 → ((p : ℕ) → p < 32 → f p ≡ g p) → by_lane f l ≡ by_lane g l

@@ -4,7 +4,7 @@ use Rattle.std.specs.Prelude.{◌&&◌, ◌||◌, not}
 use Rattle.std.proofs.lemmas.Bool.{false≢true, true≢false}
 use Rattle.noc_packet.specs.Set.{has_bit}
 use Rattle.noc_topo.specs.Lists.{one_if}
-use Rattle.noc_packet.proofs.SetLemmas.{both_members, either_members}
+use Rattle.noc_packet.proofs.SetLemmas.{both_members, either_members, first_of_both}
 use Rattle.noc_sets.specs.Column.{Column}
 use Rattle.noc_sets.specs.Counts.{ByVerdict}
 use Rattle.noc_sets.specs.Passes.{lane_heads, lane_no_credit, lane_ready}
@@ -66,10 +66,6 @@ flit-bits : (a f : Bool) → (a && not (a && f)) ≡ (a && not f)
 flit-bits true f = refl
 flit-bits false f = refl
 
-first : (a b : Bool) → (a && b) ≡ true → a ≡ true
-first true b e = refl
-first false b e = e
-
 -- ---- whether channel k has each verdict
 module _ (filled : ℕ) (c : Column) (standing : Standing ℕ) (decided : Decided ℕ) (v : Verdicts ℕ) (waiting granted lost : ℕ) (told : IsTold filled decided.picked c standing v waiting granted lost) (k : ℕ) where
   abbrev sets : ByVerdict
@@ -107,7 +103,7 @@ module _ (filled : ℕ) (c : Column) (standing : Standing ℕ) (decided : Decide
   sending-is = both_members c.active filled k
 
   pub ready-sends : has_bit ready k ≡ true → (has_bit c.active k && has_bit filled k) ≡ true
-  ready-sends e = sym sending-is ∙ first (has_bit (bit_and c.active filled) k) (has_bit c.supplied k) (sym (both_members (bit_and c.active filled) c.supplied k) ∙ e)
+  ready-sends e = sym sending-is ∙ first_of_both (has_bit (bit_and c.active filled) k) (has_bit c.supplied k) (sym (both_members (bit_and c.active filled) c.supplied k) ∙ e)
 
   pub credit-is : has_bit sets.no_credit k ≡ ((has_bit c.active k && has_bit filled k) && not (has_bit ready k))
   credit-is = ap (λ n. has_bit n k) told.no_credit ∙ less_members (bit_and c.active filled) ready k ∙ ap (λ b. b && not (has_bit ready k)) sending-is

@@ -2,11 +2,12 @@
 use Rattle.std.proofs.Common.{◌≡◌, ◌≢◌, ℕ, ◌<◌, Bool, true, false, List, Some, length, ap, ap₂, refl, sym, ◌∙◌, inl, inr, set, slice_index}
 use Rattle.std.specs.Prelude.{◌⊎◌, ◌&&◌, ◌||◌, nat_eq, if◌then◌else◌}
 use Rattle.noc_packet.specs.Set.{IsLeast}
+use Rattle.noc_sets.proofs.MemberLemmas.{or-cases, or-right}
 use Rattle.noc_columns.proofs.LoopLemmas.{left-part, was-left}
 use Rattle.noc_columns.proofs.MarkLemmas.{entry-put}
 use Rattle.noc_cycles.proofs.Common.{and_parts, cases_eq, eq-eqb, eqb-true, ne_eqb, true≢false, has_bit, has_bit-zero, less, lowest, some_below, Numbering, set_of, find-first, none-each}
 use Rattle.noc_cycles.specs.Concluding.{HaveArrived}
-use Rattle.noc_cycles.proofs.UsedLemmas.{or-cases, or-left, or-right}
+use Rattle.noc_cycles.proofs.UsedLemmas.{or-left}
 
 -- ---- in one channel: the packets of the routers of a set that are not left have arrived
 pub record HaveArrivedBut (cycle set rest : ℕ) (packet : ℕ → ℕ) (old now : ℕ → ℕ) : Type 0 where

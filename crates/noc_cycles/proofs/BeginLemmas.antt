@@ -2,6 +2,7 @@
 use Rattle.std.proofs.Common.{◌≡◌, ◌≢◌, ℕ, suc, ◌+◌, ◌-◌, ◌*◌, ◌^◌, ◌<◌, ◌≤◌, Bool, true, false, List, [], length, arith, refl, ap, ap₂, sym, ◌∙◌, inl, inr, set, get_or-set_same, get_or-set_other}
 use Rattle.std.specs.Prelude.{◌⊎◌, ◌&&◌, ◌||◌, nat_eq, if◌then◌else◌}
 use Rattle.noc_sets.proofs.MemberLemmas.{power-members}
+use Rattle.noc_columns.proofs.LoopLemmas.{and-false}
 use Rattle.noc_cycles.proofs.Common.{cases_eq, cases_lt, eq-eqb, ne_eqb, has_bit, either_members, has_bit-zero, up_by, up_members, up_none, packet_in, set_below, word}
 
 -- the row of one router
@@ -23,10 +24,6 @@ one-members false n k = has_bit-zero k
 pub up-next : (links v : ℕ) (test : ℕ → Bool) (k : ℕ) → has_bit (up_by (set_below (v + 1) test) links) k ≡ ((test v && nat_eq k (links + v)) || has_bit (up_by (set_below v test) links) k)
 up-next links v test k = (let e : v + 1 ≡ suc v = omega arith in ap (λ n. has_bit (up_by (set_below n test) links) k) e) ∙ at (cases_lt k links)
   where
-    and-no : (b : Bool) → (b && false) ≡ false
-    and-no true = refl
-    and-no false = refl
-
     turn : (a b : Bool) → (a || b) ≡ (b || a)
     turn true true = refl
     turn true false = refl
@@ -42,7 +39,7 @@ up-next links v test k = (let e : v + 1 ≡ suc v = omega arith in ap (λ n. has
     at : (k < links) ⊎ (links ≤ k) → has_bit (up_by (set_below (suc v) test) links) k ≡ ((test v && nat_eq k (links + v)) || has_bit (up_by (set_below v test) links) k)
     at (inl l) =
         up_none (set_below (suc v) test) links k l
-        ∙ sym (ap₂ (λ a b. (test v && a) || b) (ne_eqb k (links + v) (omega (arith, l))) (up_none (set_below v test) links k l) ∙ ap (λ b. b || false) (and-no (test v)))
+        ∙ sym (ap₂ (λ a b. (test v && a) || b) (ne_eqb k (links + v) (omega (arith, l))) (up_none (set_below v test) links k l) ∙ ap (λ b. b || false) (and-false (test v)))
     at (inr m) =
         up_members (set_below (suc v) test) links k m
         ∙ either_members (set_below v test) (if test v then 2 ^ v else 0) (k - links)

@@ -1,5 +1,5 @@
 -- Output channels are granted and heads are routed in one router of a block.
-use Rattle.std.proofs.Common.{◌≡◌, ◌≢◌, ◌⊎◌, ℕ, ◌+◌, ◌*◌, ◌/◌, ◌^◌, ◌<◌, Bool, true, false, ap, sym, ◌∙◌, subst, refl, inl, inr, bit_or}
+use Rattle.std.proofs.Common.{◌≡◌, ◌≢◌, ◌⊎◌, ℕ, ◌+◌, ◌*◌, ◌/◌, ◌^◌, ◌<◌, ap, sym, ◌∙◌, subst, inl, inr, bit_or}
 use Rattle.std.specs.Prelude.{◌&&◌, not}
 use Rattle.noc_sets.specs.Grants.{Allocation}
 use Rattle.noc_sets.specs.Passes.{lane_heads}
@@ -8,16 +8,13 @@ use Rattle.noc_columns.specs.Allotted.{Allotment, HasAllotted, allotted_after, a
 use Rattle.noc_columns.specs.Wants.{asks_of}
 use Rattle.noc_columns.proofs.AllocatedLemmas.{granted-is, shows-owned}
 use Rattle.noc_columns.proofs.ChosenLemmas.{is-chosen, not-allotted}
+use Rattle.noc_columns.proofs.LoopLemmas.{and-true}
 use Rattle.noc_cycles.proofs.Common.{cases_eq, has_bit, has_bit-zero, RouterMarks, Still, less, less_members, or-zero, same-word, ShowsOwned, Standing, Held, ShowsStill, Pattern}
 use Rattle.noc_cycles.specs.Deciding.{undecided}
 use Rattle.noc_cycles.specs.May.{MayDecide}
 
 less-zero : (a : ℕ) → less a 0 ≡ a
 less-zero a = same-word _ a (λ k. less_members a 0 k ∙ ap (λ b. has_bit a k && not b) (has_bit-zero k) ∙ and-true (has_bit a k))
-  where
-    and-true : (x : Bool) → (x && true) ≡ x
-    and-true true = refl
-    and-true false = refl
 
 -- what allocation finds of a router that holds this, of which these are granted and have lost
 abbrev pub allotment_by : Held → ℕ → ℕ → Allotment

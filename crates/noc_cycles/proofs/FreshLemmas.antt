@@ -4,7 +4,7 @@ use Rattle.std.specs.Prelude.{◌⊎◌, ◌&&◌, ◌||◌, not, nat_eq, nat_le
 use Rattle.std.proofs.lemmas.Bool.{false≢true, leb-true}
 use Rattle.std.proofs.lemmas.Nat.{pow_pos}
 use Rattle.noc_sets.specs.Sets.{least}
-use Rattle.noc_sets.proofs.MemberLemmas.{and_fits, least_is, lowest-is, zero_members}
+use Rattle.noc_sets.proofs.MemberLemmas.{and_fits, least_is, lowest-is, or-false, zero_members}
 use Rattle.noc_cycles.proofs.Common.{and_parts, cases_eq, eq-eqb, eqb-true, ne_eqb, true≢false, has_bit, both_members, has_bit-zero, zero_from_none, lowest, Source, Start, start_in, begun_if, sent_if}
 
 -- a set has a least member exactly where it has one
@@ -62,12 +62,8 @@ pub due-kept : (starts : List Start) (begins went : Bool) (s : Source) → (begi
     → ((went && nat_eq s.left 1) || (begins && nat_eq (start_in starts s.queue).length 1)) ≡ false → (begun_if starts begins (sent_if starts went s)).due ≡ s.due
 due-kept starts true true s apart e = absurd (true≢false (apart refl))
 due-kept starts false false s apart e = refl
-due-kept starts false true s apart e = at (nat_eq s.left 1) (sym (or-no (nat_eq s.left 1)) ∙ e)
+due-kept starts false true s apart e = at (nat_eq s.left 1) (sym (or-false (nat_eq s.left 1)) ∙ e)
   where
-    or-no : (b : Bool) → (b || false) ≡ b
-    or-no true = refl
-    or-no false = refl
-
     at : (b : Bool) → b ≡ false → (if b then record { due = (start_in starts (s.queue + 1)).due; left = 0; queue = s.queue + 1 } else record s { left = s.left - 1 }).due ≡ s.due
     at true f = absurd (true≢false f)
     at false f = refl

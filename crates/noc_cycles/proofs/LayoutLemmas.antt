@@ -6,6 +6,7 @@ use Rattle.std.proofs.lemmas.Bool.{le-leb, lt-leb}
 use Rattle.noc_topo.specs.Lists.{one_if}
 use Rattle.noc_sets.specs.Planes.{ArePlanes, plane_number}
 use Rattle.noc_sets.proofs.MemberLemmas.{ones-members}
+use Rattle.noc_columns.proofs.LoopLemmas.{and-true}
 use Rattle.noc_cycles.proofs.Common.{pow_mono, cases_eq, cases_lt, eq-eqb, le-ltb, lt-ltb, ne_eqb, has_bit, either_members, has_bit-zero, Layout, up_by, same-word, up_members, up_none, channels_of, list_of, planes_by, Numbering, all_of, set_alike, set_below, Planes, below-fits, below-members, FitsLayout, Pattern}
 use Rattle.noc_cycles.specs.Alike.{all_if, same_count}
 use Rattle.noc_cycles.specs.Taking.{links_count}
@@ -86,10 +87,6 @@ list-many false planes others = refl
 -- ---- the channels
 pub all-members : (n : ℕ) (k : ℕ) → has_bit (set_below n (λ c. true)) k ≡ nat_lt k n
 all-members n k = below-members n (λ c. true) k ∙ and-true (nat_lt k n)
-  where
-    and-true : (b : Bool) → (b && true) ≡ b
-    and-true true = refl
-    and-true false = refl
 
 -- those from one on
 pub from-members : (n from k : ℕ) → has_bit (up_by (set_below n (λ c. true)) from) k ≡ (nat_le from k && nat_lt k (from + n))

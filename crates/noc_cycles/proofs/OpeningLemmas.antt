@@ -1,6 +1,6 @@
 -- Blocks in which nothing is.
-use Rattle.std.proofs.Common.{◌≡◌, ℕ, ◌+◌, ◌-◌, ◌*◌, ◌/◌, ◌%◌, ◌^◌, ◌<◌, ◌≤◌, ◌≢◌, Bool, true, false, List, [], ◌∷◌, ◌++◌, ◌∙◌, arith, ap, ap₂, sym, refl, subst, inl, inr, length, length-append, replicate, slice_index, slice_index_or}
-use Rattle.std.specs.Prelude.{◌⊎◌, ◌&&◌, not, nat_eq, nat_lt, slice_set}
+use Rattle.std.proofs.Common.{◌≡◌, ℕ, ◌+◌, ◌-◌, ◌*◌, ◌/◌, ◌%◌, ◌^◌, ◌<◌, ◌≤◌, ◌≢◌, true, false, List, [], ◌∷◌, ◌++◌, ◌∙◌, arith, ap, ap₂, sym, subst, inl, inr, length, length-append, replicate, slice_index, slice_index_or}
+use Rattle.std.specs.Prelude.{◌⊎◌, not, nat_eq, nat_lt, slice_set}
 use Rattle.std.proofs.lemmas.List.{get_or-replicate, get_or-set_other, get_or-set_same, get_or_append_left}
 use Rattle.std.proofs.lemmas.Nat.{shl_whole}
 use Rattle.std.proofs.Math.Nat.{mul-le-mul}
@@ -11,6 +11,7 @@ use Rattle.noc_columns.specs.Picks.{output_of}
 use Rattle.noc_columns.specs.Wants.{asks_of}
 use Rattle.noc_columns.specs.Words.{IsWithin}
 use Rattle.noc_columns.proofs.ChannelLemmas.{positive}
+use Rattle.noc_columns.proofs.LoopLemmas.{and-true}
 use Rattle.noc_columns.proofs.PortLemmas.{local-place}
 use Rattle.noc_columns.proofs.SetLemmas.{below-same, by-term, none}
 use Rattle.noc_cycles.proofs.Common.{cases_eq, cases_lt, le-ltb, lt-ltb, length-set, has_bit, has_bit-zero, same-word, channels_of, links_of, port_at, planes_by, source_in, Numbering, all_of, set_alike, set_below, set_of, word, Inputs, Links, Outputs, Planes, RouterPorts, part, port-below, apart, link-index, below-members, held_at, links_at, Block, Pattern}
@@ -69,10 +70,6 @@ outputs-same d same places = λ i. the_outputs (d i) (planes_by (λ x. same x i)
 -- all channels below one
 all-is : (n : ℕ) → 2 ^ n - 1 ≡ set_below n (λ c. true)
 all-is n = same-word _ _ (λ k. ones-members n k ∙ sym (below-members n (λ c. true) k ∙ and-true (nat_lt k n)))
-  where
-    and-true : (b : Bool) → (b && true) ≡ b
-    and-true true = refl
-    and-true false = refl
 
 -- ---- where the words of a router stand
 module _ (ports : RouterPorts) where

@@ -1,18 +1,14 @@
 -- The channels of a router are those of its links, and behind them those of its local port.
-use Rattle.std.proofs.Common.{◌≡◌, ◌⊎◌, ℕ, ◌+◌, ◌-◌, ◌*◌, ◌/◌, ◌%◌, ◌<◌, ◌≤◌, Bool, true, false, List, arith, ap, sym, ◌∙◌, subst, refl, inl, inr, bit_or}
-use Rattle.std.specs.Prelude.{◌||◌}
+use Rattle.std.proofs.Common.{◌≡◌, ◌⊎◌, ℕ, ◌+◌, ◌-◌, ◌*◌, ◌/◌, ◌%◌, ◌<◌, ◌≤◌, false, List, arith, ap, sym, ◌∙◌, subst, inl, inr, bit_or}
+use Rattle.std.specs.Prelude.{◌&&◌, ◌||◌}
 use Rattle.noc_sets.proofs.MemberLemmas.{or-false}
 use Rattle.noc_columns.proofs.ByRouterLemmas.{local-word}
 use Rattle.noc_columns.proofs.ChannelLemmas.{positive}
-use Rattle.noc_columns.proofs.SetLemmas.{below-same}
-use Rattle.noc_cycles.proofs.Common.{cases_lt, has_bit, either_members, up_by, same-word, up_members, up_none, channels_of, links_of, port_at, Numbering, set_of, word, RouterPorts, part, port-below, apart, link-index, member-below, member-is, Pattern}
+use Rattle.noc_columns.proofs.SetLemmas.{below-members, below-same}
+use Rattle.noc_cycles.proofs.Common.{cases_lt, le-ltb, has_bit, either_members, up_by, same-word, up_members, up_none, channels_of, links_of, port_at, Numbering, set_of, word, RouterPorts, part, port-below, apart, link-index, member-is, Pattern}
 
 pub none-above : (n : Numbering) (r : ℕ) (words : List ℕ) (k : ℕ) → n.size ≤ k → has_bit (set_of n r words) k ≡ false
-none-above n r words k m = at (has_bit (set_of n r words) k) refl
-  where
-    at : (b : Bool) → has_bit (set_of n r words) k ≡ b → has_bit (set_of n r words) k ≡ false
-    at false e = e
-    at true e = let l = member-below n r words k e in absurd (omega (arith, l, m))
+none-above n r words k m = below-members n.size (λ j. has_bit (word (n.index j) words) r) k ∙ ap (λ b. b && has_bit (word (n.index k) words) r) (le-ltb k n.size m)
 
 module _ (ports : RouterPorts) where
   abbrev links : ℕ

@@ -4,6 +4,9 @@ use Rattle.std.specs.Prelude.{◌⊎◌, ◌&&◌, ◌||◌, not, nat_eq, if◌t
 use Rattle.std.proofs.lemmas.Bool.{cases_Bool}
 use Rattle.noc_packet.proofs.SetLemmas.{same_set}
 use Rattle.noc_sets.specs.Passes.{injecting_after}
+use Rattle.noc_sets.proofs.MemberLemmas.{or-false}
+use Rattle.noc_columns.proofs.LoopLemmas.{and-false, and-true, or-true}
+use Rattle.noc_columns.proofs.SourceLemmas.{none-or}
 use Rattle.noc_cycles.proofs.Common.{cases_eq, eq-eqb, ne_eqb, true≢false, has_bit, either_members, has_bit-zero, zero_from_none, less, up_by, Source, Start, start_in, less_members, or-zero, sent_if}
 use Rattle.noc_cycles.proofs.ShiftLemmas.{up-or, up-some, up-zero}
 
@@ -13,15 +16,8 @@ pub begun-last : (starts : List Start) (begins went : Bool) → (begins ≡ true
 begun-last starts false went apart old mid is = refl
 begun-last starts true went apart old mid is = ap (λ (s : Source). nat_eq (start_in starts s.queue).length 1) (is ∙ ap (λ b. sent_if starts b old) (apart refl))
 
-pub none-or : (a : ℕ) → bit_or 0 a ≡ a
-none-or a = same_set _ _ (λ k. either_members 0 a k ∙ ap (λ b. b || has_bit a k) (has_bit-zero k))
-
 pub less-none : (a : ℕ) → less a 0 ≡ a
 less-none a = same_set _ _ (λ k. less_members a 0 k ∙ ap (λ b. has_bit a k && not b) (has_bit-zero k) ∙ and-true (has_bit a k))
-  where
-    and-true : (b : Bool) → (b && true) ≡ b
-    and-true true = refl
-    and-true false = refl
 
 -- all members are taken away
 less-all : (a b : ℕ) → ((k : ℕ) → has_bit a k ≡ true → has_bit b k ≡ true) → less a b ≡ 0
@@ -39,12 +35,8 @@ module _ (n injecting went begun left length ready : ℕ) (last : Bool) (apart :
   last-none none =
       last_is
       ∙ ap (λ b. (not (nat_eq went 0) && nat_eq left 1) || (not b && nat_eq length 1)) (eq-eqb begun 0 none)
-      ∙ or-no (not (nat_eq went 0) && nat_eq left 1)
+      ∙ or-false (not (nat_eq went 0) && nat_eq left 1)
       ∙ sym (ap₂ (λ w x. not (nat_eq w 0) && nat_eq x 1) (ap (bit_or went) none ∙ or-zero went) (ready_is ∙ ap (λ b. if b then left else length) (eq-eqb begun 0 none)))
-    where
-      or-no : (b : Bool) → (b || false) ≡ b
-      or-no true = refl
-      or-no false = refl
 
   last-some : begun ≢ 0 → went ≡ 0 → last ≡ (not (nat_eq (bit_or went begun) 0) && nat_eq ready 1)
   last-some some none =
@@ -64,14 +56,6 @@ module _ (n injecting went begun left length ready : ℕ) (last : Bool) (apart :
   gone : last ≡ true → less (bit_or injecting begun) (bit_or went begun) ≡ 0
   gone e = less-all (bit_or injecting begun) (bit_or went begun) (λ k m. either_members went begun k ∙ at k (cases_Bool (has_bit begun k)) (sym (either_members injecting begun k) ∙ m))
     where
-      or-true : (b : Bool) → (b || true) ≡ true
-      or-true true = refl
-      or-true false = refl
-
-      or-no : (b : Bool) → (b || false) ≡ b
-      or-no true = refl
-      or-no false = refl
-
       some-went : (k : ℕ) → begun ≡ 0 → went ≢ 0
       some-went k none zero = true≢false
           (sym e ∙ last-is ∙ ap (λ w. not (nat_eq w 0) && nat_eq ready 1) (ap₂ bit_or zero none ∙ or-zero 0))
@@ -85,7 +69,7 @@ module _ (n injecting went begun left length ready : ℕ) (last : Bool) (apart :
       at : (k : ℕ) → (has_bit begun k ≡ true) ⊎ (has_bit begun k ≡ false) → (has_bit injecting k || has_bit begun k) ≡ true → (has_bit went k || has_bit begun k) ≡ true
       at k (inl b) m = ap (λ x. has_bit went k || x) b ∙ or-true (has_bit went k)
       at k (inr b) m =
-          let here : has_bit injecting k ≡ true = sym (or-no (has_bit injecting k)) ∙ ap (λ x. has_bit injecting k || x) (sym b) ∙ m in
+          let here : has_bit injecting k ≡ true = sym (or-false (has_bit injecting k)) ∙ ap (λ x. has_bit injecting k || x) (sym b) ∙ m in
           ap₂ (λ x y. x || y) (all (some-went k (began k here)) k here) b
 
   pub tails-sent : up_by (if last then bit_or went begun else 0) n ≡ (if nat_eq ready 1 then up_by (bit_or went begun) n else 0)
@@ -94,11 +78,7 @@ module _ (n injecting went begun left length ready : ℕ) (last : Bool) (apart :
       at : (b : Bool) → (bit_or went begun ≡ 0) ⊎ (bit_or went begun ≢ 0) → up_by (if not (nat_eq (bit_or went begun) 0) && b then bit_or went begun else 0) n ≡ (if b then up_by (bit_or went begun) n else 0)
       at true (inl none) = ap (λ x. up_by (if not x && true then bit_or went begun else 0) n) (eq-eqb (bit_or went begun) 0 none) ∙ ap (λ w. up_by w n) (sym none)
       at true (inr some) = ap (λ x. up_by (if not x && true then bit_or went begun else 0) n) (ne_eqb (bit_or went begun) 0 some)
-      at false o = ap (λ x. up_by (if x then bit_or went begun else 0) n) (and-no (not (nat_eq (bit_or went begun) 0))) ∙ up-zero n
-        where
-          and-no : (b : Bool) → (b && false) ≡ false
-          and-no true = refl
-          and-no false = refl
+      at false o = ap (λ x. up_by (if x then bit_or went begun else 0) n) (and-false (not (nat_eq (bit_or went begun) 0))) ∙ up-zero n
 
   pub injecting-sent : up_by (less (bit_or injecting begun) (if last then bit_or went begun else 0)) n ≡ injecting_after (up_by (bit_or went begun) n) ready (bit_or (up_by injecting n) (up_by begun n))
   injecting-sent = at last refl ∙ ap (λ b. if b then 0 else bit_or (up_by injecting n) (up_by begun n)) (last-is ∙ ap (λ x. not x && nat_eq ready 1) (sym (up-some (bit_or went begun) n)))

@@ -8,28 +8,17 @@ use Rattle.noc_sets.specs.Passes.{injecting_after, lane_injected, with_first}
 use Rattle.noc_sets.specs.Planes.{more_than_one, plane_number, raised_by}
 use Rattle.noc_sets.specs.Sets.{differ}
 use Rattle.noc_sets.specs.Source.{packet_begun, sent_source}
-use Rattle.noc_sets.proofs.MemberLemmas.{or-none, xor_members, zero_members}
+use Rattle.noc_sets.proofs.MemberLemmas.{or-false, or-none, xor_members, zero_members}
 use Rattle.noc_sets.proofs.PlaneLemmas.{any-members}
 use Rattle.noc_columns.specs.Steps.{Lands}
 use Rattle.noc_columns.specs.Supply.{is_fed}
 use Rattle.noc_columns.specs.Switch.{channels_at}
+use Rattle.noc_columns.proofs.TableLemmas.{or-joined}
 use Rattle.noc_cycles.proofs.Common.{and_parts, cases_lt, eqb-true, true≢false, has_bit, both_members, either_members, has_bit-zero, RouterMarks, Still, Layout, any_from, wrong_from, less, lowest, up_by, Start, less_members, same-word, up_none, ShowsOwned, port_at, list_of, all_of, Outputs, Planes, Links, Inputs, Standing, blank, Held, ShowsStill, FitsLayout, Pattern}
 use Rattle.noc_cycles.specs.Held.{ShowsHeld, ShowsMarks, column_by}
 use Rattle.noc_cycles.specs.May.{MayTake, owned_by, with_credit}
 use Rattle.noc_cycles.specs.Taking.{HasCredits, HasInjected, HasTaken, begins_held, ready_held, went_held}
 use Rattle.noc_cycles.proofs.UpLemmas.{supplied-now, up-fits, up-owners, up_of}
-
-pub or-group : (a b c : ℕ) → bit_or (bit_or a b) c ≡ bit_or a (bit_or b c)
-or-group a b c = same-word _ _ (λ k.
-    either_members (bit_or a b) c k
-    ∙ ap (λ x. x || has_bit c k) (either_members a b k)
-    ∙ at (has_bit a k) (has_bit b k) (has_bit c k)
-    ∙ ap (λ x. has_bit a k || x) (sym (either_members b c k))
-    ∙ sym (either_members a (bit_or b c) k))
-  where
-    at : (x y z : Bool) → ((x || y) || z) ≡ (x || (y || z))
-    at true y z = refl
-    at false y z = refl
 
 -- ---- a head that comes to an empty buffer is its first flit
 -- where `first` is neither among the set nor in the lowest plane
@@ -61,11 +50,7 @@ raised-first plane planes set first apart = ap₂ (λ x y. x ∷ raised_by plane
       where
         at : (k : ℕ) → (has_bit first k ≡ true) ⊎ (has_bit first k ≡ false) → ((has_bit set k || has_bit first k) && has_bit plane k) ≡ (has_bit set k && has_bit plane k)
         at k (inl e) = rw (e, (apart k e).0, (apart k e).1) refl
-        at k (inr e) = rw e (ap (λ b. b && has_bit plane k) (or-no (has_bit set k)))
-          where
-            or-no : (b : Bool) → (b || false) ≡ b
-            or-no true = refl
-            or-no false = refl
+        at k (inr e) = rw e (ap (λ b. b && has_bit plane k) (or-false (has_bit set k)))
 
 -- the planes behind the lowest
 abbrev list_of_rest : Bool → Planes ℕ → List ℕ
@@ -164,7 +149,7 @@ module _ (pattern : Pattern) (layout : Layout) (fits : FitsLayout pattern layout
   ahead-is = ap (λ (i : Inputs ℕ). i.ahead) lands.ended ∙ ap (λ (i : Inputs ℕ). i.ahead) inputs-kept
 
   flits-are : flits ≡ bit_or (bit_or came.flits injected) (lowest begins)
-  flits-are = injects.flits_are ∙ ap (λ k. bit_or came.flits (went_held pattern layout cycle k)) credits.rest ∙ sym (or-group came.flits injected (lowest begins))
+  flits-are = injects.flits_are ∙ ap (λ k. bit_or came.flits (went_held pattern layout cycle k)) credits.rest ∙ sym (or-joined came.flits injected (lowest begins))
 
   apart : (k : ℕ) → has_bit (lowest begins) k ≡ true → (has_bit (bit_or came.flits injected) k ≡ false) × (has_bit h.inputs.len.ones k ≡ false)
   apart k e =
@@ -222,13 +207,13 @@ module _ (pattern : Pattern) (layout : Layout) (fits : FitsLayout pattern layout
       ∙ ap₂ (λ (i : Inputs ℕ) w. bit_or i.ended w) inputs-kept
       (injects.tails_are
       ∙ ap (λ k. bit_or came.tails (if nat_eq (ready_held pattern layout starts cycle k).left 1 then went_held pattern layout cycle k else 0)) credits.rest)
-      ∙ sym (or-group h.inputs.ended came.tails (if nat_eq (ready_source layout starts cycle router_of).left 1 then went_in layout cycle router_of else 0))
+      ∙ sym (or-joined h.inputs.ended came.tails (if nat_eq (ready_source layout starts cycle router_of).left 1 then went_in layout cycle router_of else 0))
 
   -- ---- what its channels can do
   filled-is : bit_or (any_from 0 (list_of pattern.frame.deep d.inputs.len)) flits ≡ still.filled
   filled-is =
       ap₂ (λ (i : Inputs ℕ) w. bit_or (any_from 0 (list_of pattern.frame.deep i.len)) w) inputs-kept flits-are
-      ∙ sym (or-group (any_from 0 (list_of deep h.inputs.len)) (bit_or came.flits injected) (lowest begins))
+      ∙ sym (or-joined (any_from 0 (list_of deep h.inputs.len)) (bit_or came.flits injected) (lowest begins))
 
   heads-are : t.heads ≡ less still.filled (bit_or h.inputs.waiting h.inputs.active)
   heads-are = lands.heads blank ∙ ap₂ (λ f (i : Inputs ℕ). less f (bit_or i.waiting i.active)) filled-is inputs-kept

@@ -7,6 +7,7 @@ use Rattle.noc_sets.specs.Passes.{Effects}
 use Rattle.noc_sets.specs.Planes.{more_than_one}
 use Rattle.noc_sets.specs.Turns.{ArePast, ArePicked}
 use Rattle.noc_sets.specs.Unions.{rest_from}
+use Rattle.noc_sets.proofs.TurnLemmas.{first-among}
 use Rattle.noc_columns.specs.Picks.{HasPick, IsPicked, output_of, port_of}
 use Rattle.noc_columns.specs.Supply.{digits_by, number_in}
 use Rattle.noc_columns.specs.Switch.{HasTraversed, ShowsOutputs, ShowsPicks, ShowsSends, asks_for, leaves_by, picks_in, switched_effects, switched_marks, taken_by}
@@ -15,7 +16,7 @@ use Rattle.noc_columns.specs.declared.supply.Sends.{Sends}
 use Rattle.noc_columns.proofs.ChannelLemmas.{whole}
 use Rattle.noc_columns.proofs.PastLemmas.{are-past}
 use Rattle.noc_columns.proofs.PickLemmas.{Found}
-use Rattle.noc_columns.proofs.RouterLemmas.{are-picked, first-among, part-is}
+use Rattle.noc_columns.proofs.RouterLemmas.{are-picked, part-is}
 use Rattle.noc_columns.proofs.ShownLemmas.{shown-picks}
 use Rattle.noc_columns.proofs.SwitchLemmas.{has-switched}
 use Rattle.noc_cycles.proofs.Common.{and_parts, cases_lt, le-ltb, lt-ltb, true≢false, has_bit, both_members, RouterMarks, less, some_below, less_members, same-word, channels_of, links_of, set_of, word, RouterPorts, part, port-below, find-first, link-index, member-below, below-members, member-is}

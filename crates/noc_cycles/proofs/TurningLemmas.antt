@@ -13,6 +13,7 @@ use Rattle.noc_sets.specs.Passes.{Effects, lane_no_credit, lane_no_flit, lane_re
 use Rattle.noc_sets.specs.Planes.{lowered_by, more_than_one}
 use Rattle.noc_sets.specs.Turns.{ArePast}
 use Rattle.noc_sets.proofs.MemberLemmas.{either-zero}
+use Rattle.noc_sets.proofs.TurnLemmas.{first-among}
 use Rattle.noc_sets.proofs.UnionLemmas.{union-members}
 use Rattle.noc_columns.specs.Arrivals.{given_back}
 use Rattle.noc_columns.specs.Switch.{ShowsOutputs, ShowsSends}
@@ -20,7 +21,6 @@ use Rattle.noc_columns.specs.declared.channels.Decided.{Decided}
 use Rattle.noc_columns.specs.declared.channels.Verdicts.{Verdicts}
 use Rattle.noc_columns.proofs.BackLemmas.{given-back}
 use Rattle.noc_columns.proofs.PickLemmas.{some-each}
-use Rattle.noc_columns.proofs.RouterLemmas.{first-among}
 use Rattle.noc_cycles.proofs.Common.{and_parts, cases_lt, eqb-true, le-ltb, lt-ltb, true≢false, has_bit, both_members, either_members, has_bit-zero, RouterMarks, Still, Layout, less, up_by, Start, some_below, less_members, same-word, up_members, up_none, ShowsOwned, port_at, list_of, all_of, Links, Standing, blank, find-first, below-members, Held, ShowsStill, FitsLayout, Pattern}
 use Rattle.noc_cycles.specs.Concluding.{HasConcludedHeld}
 use Rattle.noc_cycles.specs.Deciding.{HasDecidedHeld, undecided}
@@ -28,10 +28,7 @@ use Rattle.noc_cycles.specs.Held.{ShowsMarks, column_by}
 use Rattle.noc_cycles.specs.Taking.{HasTaken, links_count}
 use Rattle.noc_cycles.specs.Through.{HasGoneThrough, Worked}
 use Rattle.noc_cycles.specs.Turning.{HasWorkedHeld, verdict_sets_by}
-
-and-true : (b : Bool) → (b && true) ≡ b
-and-true true = refl
-and-true false = refl
+use Rattle.noc_columns.proofs.LoopLemmas.{and-false, and-true}
 
 -- ---- the channels of links and of the local port
 module _ (pattern : Pattern) (layout : Layout) (fits : FitsLayout pattern layout) where
@@ -71,10 +68,6 @@ module _ (pattern : Pattern) (layout : Layout) (fits : FitsLayout pattern layout
       none : (o : ℕ) (b : Bool) → has_bit set o ≡ b → wide * vcs_is ≤ o → false ≡ has_bit set o
       none o false e m = sym e
       none o true e m = (let l = below o e in absurd (omega (arith, l, m)))
-
-      and-false : (b : Bool) → (b && false) ≡ false
-      and-false true = refl
-      and-false false = refl
 
       at : (o : ℕ) → (o < wide * vcs_is) ⊎ (wide * vcs_is ≤ o) → (has_bit all o && nat_lt o (wide * vcs_is)) ≡ has_bit set o
       at o (inl l) = ap (λ b. has_bit all o && b) (lt-ltb o (wide * vcs_is) l) ∙ and-true (has_bit all o) ∙ sym (same o l)

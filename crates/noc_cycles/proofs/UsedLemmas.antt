@@ -1,21 +1,13 @@
 -- The words that have a router, and the routers that a channel has.
-use Rattle.std.proofs.Common.{◌≡◌, ◌⊎◌, ℕ, ◌+◌, ◌*◌, Bool, true, false, List, arith, ap, ◌∙◌, refl, inl, inr, mul_comm}
+use Rattle.std.proofs.Common.{◌≡◌, ℕ, ◌+◌, ◌*◌, Bool, true, List, arith, ap, ◌∙◌, mul_comm}
 use Rattle.std.specs.Prelude.{◌||◌, nat_eq, not}
 use Rattle.noc_columns.proofs.PassLemmas.{some-same}
 use Rattle.noc_columns.proofs.UsedLemmas.{channel-of, index-below}
 use Rattle.noc_cycles.proofs.Common.{has_bit, channels_of, some_below, set_of, word, Pattern}
 use Rattle.noc_cycles.proofs.SomeLemmas.{some-words}
 
-pub or-cases : (a b : Bool) → (a || b) ≡ true → (a ≡ true) ⊎ (b ≡ true)
-or-cases true b e = inl refl
-or-cases false b e = inr e
-
 pub or-left : (a b : Bool) → a ≡ true → (a || b) ≡ true
 or-left a b e = ap (λ x. x || b) e
-
-pub or-right : (a b : Bool) → b ≡ true → (a || b) ≡ true
-or-right true b e = refl
-or-right false b e = e
 
 module _ (pattern : Pattern) where
   abbrev width : ℕ

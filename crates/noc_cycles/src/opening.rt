@@ -33,7 +33,7 @@ pub fn open_blocks(
 {
     let mut blocks = Vec::with_capacity(alloc, count.max(LEAST_BLOCKS))?;
     for number in 0..count {
-        blocks.push(NO_BLOCK)?;
+        blocks.push_reserved(NO_BLOCK);
         blocks[number].open(pattern, firsts, number);
     }
     Ok(blocks)
@@ -45,7 +45,7 @@ pub fn empty_works(alloc: Global, count: usize) -> Result<Vec<Work>, Memory>
 {
     let mut works = Vec::with_capacity(alloc, count.max(LEAST_WORKS))?;
     for _ in 0..count {
-        works.push(NO_WORK)?;
+        works.push_reserved(NO_WORK);
     }
     Ok(works)
 }

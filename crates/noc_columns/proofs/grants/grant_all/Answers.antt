@@ -7,13 +7,13 @@ use Rattle.noc_packet.proofs.SetLemmas.{either_members}
 use Rattle.noc_alloc.specs.Members.{MembersAreBelow}
 use Rattle.noc_sets.specs.Turns.{first_bit, in_turn}
 use Rattle.noc_sets.proofs.MemberLemmas.{lowest-one, or-cases, or-none}
+use Rattle.noc_sets.proofs.TurnLemmas.{first-among}
 use Rattle.noc_columns.specs.Grants.{first_of}
 use Rattle.noc_columns.specs.Picks.{channels_of}
 use Rattle.noc_columns.specs.Words.{set_of}
 use Rattle.noc_columns.proofs.GrantLemmas.{first-is, granted-next, granted-none, granted-same}
 use Rattle.noc_columns.proofs.LoopLemmas.{all-done, left-members, left-part, none-left, not-done, not-left}
 use Rattle.noc_columns.proofs.PortLemmas.{lowest-least}
-use Rattle.noc_columns.proofs.RouterLemmas.{first-among}
 use Rattle.noc_columns.proofs.grants.grant_all.Goals as goal
 
 pub loop-rest-init : goal.loop-rest-init

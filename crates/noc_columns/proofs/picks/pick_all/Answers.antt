@@ -3,10 +3,11 @@ use Rattle.std.specs.Prelude.{◌&&◌, not}
 use Rattle.noc_packet.specs.Set.{has_bit}
 use Rattle.noc_sets.specs.Turns.{in_turn}
 use Rattle.noc_sets.specs.Unions.{some_below}
+use Rattle.noc_sets.proofs.TurnLemmas.{first-among}
 use Rattle.noc_columns.specs.Picks.{port_of}
 use Rattle.noc_columns.specs.Words.{set_of, word}
 use Rattle.noc_columns.proofs.PortLemmas.{lowest-alone, one-both, some-member}
-use Rattle.noc_columns.proofs.RouterLemmas.{first-among, part-is}
+use Rattle.noc_columns.proofs.RouterLemmas.{part-is}
 use Rattle.noc_columns.proofs.ShownLemmas.{number-part}
 use Rattle.noc_columns.proofs.SupplyLemmas.{member-is, number, number-is}
 use Rattle.noc_columns.proofs.picks.pick_all.Goals as goal

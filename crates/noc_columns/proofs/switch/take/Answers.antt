@@ -4,6 +4,7 @@ use Rattle.std.proofs.lemmas.Bool.{and_parts}
 use Rattle.noc_packet.specs.Set.{has_bit}
 use Rattle.noc_sets.specs.Turns.{first_bit, in_turn}
 use Rattle.noc_sets.specs.Unions.{some_below}
+use Rattle.noc_sets.proofs.TurnLemmas.{first-among}
 use Rattle.noc_columns.specs.Picks.{output_of, port_of}
 use Rattle.noc_columns.specs.Switch.{asks_for, picks_in}
 use Rattle.noc_columns.specs.Words.{set_below, set_of, word}
@@ -11,7 +12,6 @@ use Rattle.noc_columns.proofs.PassLemmas.{some-same}
 use Rattle.noc_columns.proofs.PickLemmas.{moved-bit}
 use Rattle.noc_columns.proofs.PortLemmas.{lowest-alone, member-below, one-both, sets-same}
 use Rattle.noc_columns.proofs.SetLemmas.{below-same}
-use Rattle.noc_columns.proofs.RouterLemmas.{first-among}
 use Rattle.noc_columns.proofs.SupplyLemmas.{member-is, no-fours, number}
 use Rattle.noc_columns.proofs.switch.take.Goals as goal
 

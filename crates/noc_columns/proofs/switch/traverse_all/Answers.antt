@@ -1,12 +1,12 @@
 use Rattle.std.proofs.Common.{◌≡◌, ℕ, ◌+◌, ◌<◌, ◌∙◌, true, ap, ap₂, arith, slice_index}
 use Rattle.std.specs.Prelude.{◌&&◌, not, nat_eq}
 use Rattle.noc_packet.specs.Set.{has_bit}
+use Rattle.noc_sets.proofs.TurnLemmas.{first-among}
 use Rattle.noc_columns.specs.Picks.{output_of, port_of}
 use Rattle.noc_columns.specs.Supply.{digits_by, number_in}
 use Rattle.noc_columns.specs.Switch.{asks_for, picks_in}
 use Rattle.noc_columns.specs.Words.{set_of, word}
 use Rattle.noc_columns.proofs.PortLemmas.{some-member}
-use Rattle.noc_columns.proofs.RouterLemmas.{first-among}
 use Rattle.noc_columns.proofs.SupplyLemmas.{member-is}
 use Rattle.noc_columns.proofs.switch.traverse_all.Goals as goal
 
