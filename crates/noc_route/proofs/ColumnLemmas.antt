@@ -20,6 +20,12 @@ block-below block t input n nodes w same long inside l =
     let size : nodes * w ≡ n * w = ap (λ x. x * w) (sym same) in
     omega (arith, below, long, size, mul_comm w n)
 
+-- the number of a page is small
+pub page-in : (f : Sizes) (pair dst : ℕ) → pair < nodes f.shape * f.classes → dst < f.node_count → pair * f.node_count + dst < 262144
+page-in f pair dst l m =
+    let here : pair < f.node_count * f.classes = subst (λ n. pair < n * f.classes) (sym f.all_nodes) l in
+    omega (arith, flat-below pair (f.node_count * f.classes) dst f.node_count here m, pages-few f.node_count f.classes f.few_nodes f.few_classes)
+
 -- row a of m, each of n, ends within all of them
 pub row-end : (a m n : ℕ) → a < m → a * n + n ≤ m * n
 row-end a m n l =
@@ -262,6 +268,15 @@ pub table-few : (f : Sizes) → pages f.shape f.classes * width f.shape f.vcs �
 table-few f =
     table-short (nodes f.shape) f.classes (width f.shape f.vcs) (subst (λ n. n ≤ 256) f.all_nodes f.few_nodes) f.few_classes
     (width-few (ports f.shape) f.vcs (subst (λ p. p ≤ 7) f.all_ports f.few_ports) f.few_vcs)
+
+pub width-in : (f : Sizes) → width f.shape f.vcs ≤ 56
+width-in f = width-few (ports f.shape) f.vcs (subst (λ p. p ≤ 7) f.all_ports f.few_ports) f.few_vcs
+
+-- the index of a set of a block is small
+pub column-in : (f : Sizes) (input dst : ℕ) → input < width f.shape f.vcs → dst < f.node_count → input * f.node_count + dst < 14336
+column-in f input dst l m =
+    let few = mul-le-mul_right f.node_count (width-in f) in
+    omega (arith, flat-below input (width f.shape f.vcs) dst f.node_count l m, few, f.few_nodes)
 
 -- a block of the table, and the blocks before it
 pub block-room : (f : Sizes) (pair : ℕ) → pair < f.node_count * f.classes → pair * (nodes f.shape * width f.shape f.vcs) + nodes f.shape * width f.shape f.vcs ≤ pages f.shape f.classes * width f.shape f.vcs

@@ -1,5 +1,5 @@
 -- Lists of sets that are kept by the number of their kind.
-use Rattle.std.proofs.Common.{◌≡◌, ◌≢◌, ◌⊎◌, ℕ, ◌+◌, ◌<◌, ◌≤◌, ◌∙◌, List, [], ◌∷◌, length, get_or, take, set, arith, inl, inr, subst, sym, below_more}
+use Rattle.std.proofs.Common.{◌≡◌, ◌≢◌, ◌⊎◌, ℕ, ◌+◌, ◌<◌, ◌≤◌, ◌∙◌, List, [], ◌∷◌, length, get_or, take, set, arith, inl, inr, subst, sym, below_more, refl}
 use Rattle.std.proofs.lemmas.Bool.{cases_lt}
 use Rattle.std.proofs.lemmas.List.{ext_get_or, length-map, get_or-map, get_or-set_same, get_or-set_other, get_or-take, length-take-le}
 use Rattle.noc_route.specs.Listed.{AreNumbered, AreNumbers, listed}
@@ -46,6 +46,19 @@ numbered-more sets kinds numbers place count number s next inside there order sa
 
     here : get_or new place 0 ≡ number
     here = get_or-set_same numbers place number 0 inside
+
+-- without numbers they are the sets, and else one set for each number
+pub listed-none : (sets numbers : List ℕ) → length numbers ≡ 0 → listed sets numbers ≡ sets
+listed-none sets [] none = refl
+listed-none sets (n ∷ ns) none = absurd (omega (arith, none))
+
+pub listed-long : (sets numbers : List ℕ) → length numbers ≢ 0 → length (listed sets numbers) ≡ length numbers
+listed-long sets [] some = absurd (some refl)
+listed-long sets (n ∷ ns) some = length-map (n ∷ ns) (λ k. get_or sets k 0)
+
+pub listed-at : (sets numbers : List ℕ) (place : ℕ) → place < length numbers → get_or (listed sets numbers) place 0 ≡ get_or sets (get_or numbers place 0) 0
+listed-at sets [] place l = absurd (omega (arith, l))
+listed-at sets (n ∷ ns) place l = get_or-map (λ k. get_or sets k 0) (n ∷ ns) place 0 0 l
 
 -- the sets that have these numbers are all sets
 pub listed-all : (sets kinds numbers : List ℕ) (count : ℕ) → length numbers ≡ length sets → count ≤ length kinds → AreNumbered sets kinds numbers (length sets) count

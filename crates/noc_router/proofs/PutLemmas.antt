@@ -1,5 +1,5 @@
 -- The beats that are still to be put.
-use Rattle.std.proofs.Common.{◌≡◌, ℕ, zero, suc, ◌<◌, List, [], ◌∷◌, length, get_or, set, take, Some, refl, ap, sym, ◌∙◌}
+use Rattle.std.proofs.Common.{◌≡◌, ℕ, zero, suc, ◌<◌, ◌≤◌, List, [], ◌∷◌, length, get_or, set, take, Some, refl, ap, sym, ◌∙◌, arith}
 use Rattle.std.proofs.lemmas.List.{get_or-take}
 use Rattle.noc_packet.specs.declared.packet.Beat.{Beat}
 use Rattle.noc_packet.specs.declared.packet.Flit.{Flit}
@@ -24,6 +24,13 @@ pub take-flit : (n port vc : ℕ) (f : Flit) (beats new : List Beat) → new ≡
 take-flit n port vc f beats new e l =
     ap (take n) e ∙ take-set_at n beats port (record (get_or beats port idle_beat) { flit = Some (vc, f) })
     ∙ ap (λ (beat : Beat). set (take n beats) port (record beat { flit = Some (vc, f) })) (sym (get_or-take n beats port idle_beat l))
+
+-- nothing is written at a port that is no link
+pub put-none : {X : Type 0} (n port : ℕ) (beats : List X) (y : X) → n ≤ port → take n beats ≡ set (take n beats) port y
+put-none zero port beats y l = refl
+put-none (suc n) port [] y l = refl
+put-none (suc n) zero (x ∷ xs) y l = absurd (omega (arith, l))
+put-none (suc n) (suc port) (x ∷ xs) y l = ap (λ rest. x ∷ rest) (put-none n port xs y (omega (arith, l)))
 
 -- a router with other beats on its links
 pub relinked : (r : Inside) (beats : List Beat) → IsRouter r → length beats ≡ length r.to_put → IsRouter (record r { to_put = beats })

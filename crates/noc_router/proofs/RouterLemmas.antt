@@ -50,6 +50,10 @@ local-index r vc is =
     let e : r.ports - 1 ≡ 2 * length r.shape.radix = omega (arith, is.ports) in
     ap (λ n. n * r.vcs + vc) e
 
+-- a router in another cycle
+pub at-cycle : (r : Inside) (cycle : ℕ) → IsRouter r → IsRouter (record r { cycle = cycle })
+at-cycle r cycle is = IsRouter-kept r (record r { cycle = cycle }) is refl refl refl refl refl refl refl refl (λ i e. e) refl refl refl refl refl
+
 -- a router of which only channels and misfits change, and no input channel, is one still
 pub IsRouter-misfit : (r : Inside) (channels : Channels) (n : ℕ) → IsRouter r → states_in channels ≡ states_in r.channels → IsRouter (record r { channels = channels; misfits = n })
 IsRouter-misfit r channels n is states =

@@ -1,4 +1,4 @@
-use Rattle.std.proofs.Common.{◌∙◌, Option, subst, sym}
+use Rattle.std.proofs.Common.{◌∙◌, Option, refl, subst, sym}
 use Rattle.std.proofs.lemmas.Bool.{false≢true}
 use Rattle.std.proofs.lemmas.Result.{err_from_is_err_and}
 use Rattle.std.specs.Prelude.{MatchOption}
@@ -63,3 +63,41 @@ returns-in_err-first_descent-clause-err g c =
 
 pub returns-in_err-first_descent-clause-refused : goal.returns-in_err-first_descent-clause-refused
 returns-in_err-first_descent-clause-refused g c = λ _. let p = err_from_is_err_and c.from_residual.result c.from_residual.ensures.1 in rw p.1 p.2
+
+pub returns-in-None-clause-err : goal.returns-in-None-clause-err
+returns-in-None-clause-err g c = tt
+
+pub returns-in-None-clause-accepted : goal.returns-in-None-clause-accepted
+returns-in-None-clause-accepted g c = λ _ _. refl
+
+pub returns-in-None-clause-refused : goal.returns-in-None-clause-refused
+returns-in-None-clause-refused g c = λ _. tt
+
+pub returns-in-Some-clause-ok : goal.returns-in-Some-clause-ok
+returns-in-Some-clause-ok g c = tt
+
+pub returns-in-Some-first_bare-clause-ok : goal.returns-in-Some-first_bare-clause-ok
+returns-in-Some-first_bare-clause-ok g c = tt
+
+pub returns-in-None-2-clause-err : goal.returns-in-None-2-clause-err
+returns-in-None-2-clause-err g c = tt
+
+pub returns-in-None-2-clause-accepted : goal.returns-in-None-2-clause-accepted
+returns-in-None-2-clause-accepted g c = λ _ _. refl
+
+pub returns-in-None-2-clause-refused : goal.returns-in-None-2-clause-refused
+returns-in-None-2-clause-refused g c = λ _. tt
+
+pub returns-in-Some-2-clause-ok : goal.returns-in-Some-2-clause-ok
+returns-in-Some-2-clause-ok g c = tt
+
+pub returns-in-Some-2-clause-err : goal.returns-in-Some-2-clause-err
+returns-in-Some-2-clause-err g c =
+    let routes = c.args.relation.now in
+    let k = c.args.ranks.now in
+    let B : Option Entry → Type 0 = λ o. MatchOption o (HasEscapes routes k) (IsFirstBare routes k) in
+    let D : Option Descent → Type 0 = λ o. MatchOption o (HasNoDescent routes k) (λ d. IsFirstDescent routes k d.from d.to d.rank d.next) in
+    rw c.fault-in-Some-2.ensures (λ full. false≢true (sym c.if-is_full.false ∙ c.is_full.ensures.full.1 full), subst B c.in_default.is c.first_bare.ensures, subst D c.in-Some-2.is c.in_ok-first_descent.ensures)
+
+pub invariant_of-ranked : goal.invariant_of-ranked
+invariant_of-ranked g c = record { grid = c.requires.shape; vcs = c.requires.vcs }

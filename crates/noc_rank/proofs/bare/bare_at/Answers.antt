@@ -44,3 +44,9 @@ returns-clause-some c = (
     none = λ i l has. c.has_rank.ensures.no c.if-has_rank.false i l (record { member = ap (λ s. has_bit s i) c.permitted-set.ensures.value ∙ has.member; ranked = has.ranked });
   },
 )
+
+pub returns-then-entry-clause-some : goal.returns-then-entry-clause-some
+returns-then-entry-clause-some c = tt
+
+pub returns-clause-none : goal.returns-clause-none
+returns-clause-none c = tt

@@ -28,3 +28,9 @@ loop-number-preserved c =
     let there : slice_get rows n ≡ Some row = slice_get-get_or rows n (record { router = 0; port = 0; vc = 0; rank = None }) c.loop-number-test.true in
     let none = sym (row_fault-stored g c.args.vcs rows n c.loop-number.ranks c.loop-number.named row c.loop-number.invariant) ∙ sym c.row_fault.ensures ∙ c.in_default.is in
     rw (c.rank_index-index.ensures.value, c.stored.ensures) (AreEntered-more g c.args.vcs rows n c.loop-number.ranks c.loop-number.named row there none c.loop-number.invariant)
+
+pub returns-in-Some-clause-ok : goal.returns-in-Some-clause-ok
+returns-in-Some-clause-ok c = tt
+
+pub returns-clause-err : goal.returns-clause-err
+returns-clause-err c = tt

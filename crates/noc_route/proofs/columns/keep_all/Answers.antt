@@ -6,7 +6,8 @@ use Rattle.noc_route.specs.Columns.{AreKept}
 use Rattle.noc_route.specs.Entered.{sets_in}
 use Rattle.noc_route.specs.Routes.{width}
 use Rattle.noc_route.specs.Trimming.{left_in, IsFirstLeft}
-use Rattle.noc_route.proofs.ColumnLemmas.{AreKept-behind, AreKept-written, block-end, block-room, pairs-more}
+use Rattle.noc_route.proofs.ColumnLemmas.{AreKept-behind, AreKept-written, block-end, block-room, pairs-more, table-few}
+use Rattle.noc_route.proofs.EntryLemmas.{pages-few}
 use Rattle.noc_route.proofs.columns.keep_all.Goals as goal
 
 pub leave_pair-first-requires-clause-pair : goal.leave_pair-first-requires-clause-pair
@@ -72,3 +73,44 @@ returns-clause-first c =
     let P : ℕ → Type 0 = λ p. IsFirstLeft f (sets_in f c.args.entered.now) c.args.leaving.now.outs.now (p * nodes f.shape * width f.shape f.vcs) c.loop-pair.first in
     let last : c.loop-pair.pair ≡ f.node_count * f.classes = omega (arith, c.loop-pair-test.false, c.loop-pair.auto.pair-end) in
     subst P (last ∙ ap (λ n. n * f.classes) f.all_nodes) c.loop-pair.invariant.first
+
+pub leave_pair-first-requires-clause-all : goal.leave_pair-first-requires-clause-all
+leave_pair-first-requires-clause-all c = c.requires.all
+
+pub leave_pair-first-requires-clause-coming : goal.leave_pair-first-requires-clause-coming
+leave_pair-first-requires-clause-coming c = c.loop-pair.auto.coming ∙ c.requires.coming
+
+pub leave_pair-first-requires-clause-block : goal.leave_pair-first-requires-clause-block
+leave_pair-first-requires-clause-block c = c.loop-pair.auto.block ∙ c.requires.block
+
+pub leave_pair-first-requires-clause-first : goal.leave_pair-first-requires-clause-first
+leave_pair-first-requires-clause-first c = c.loop-pair.invariant.first
+
+pub keep_pair-end-requires-clause-block : goal.keep_pair-end-requires-clause-block
+keep_pair-end-requires-clause-block c = c.leave_pair-first.auto.block ∙ c.loop-pair.auto.block ∙ c.requires.block
+
+pub keep_pair-end-requires-clause-pair : goal.keep_pair-end-requires-clause-pair
+keep_pair-end-requires-clause-pair c =
+    let f = c.args.leaving.now.map.now.sizes in
+    subst (λ n. c.loop-pair.pair < n * f.classes) f.all_nodes c.loop-pair-test.true
+
+pub keep_pair-end-requires-clause-starts : goal.keep_pair-end-requires-clause-starts
+keep_pair-end-requires-clause-starts c = c.loop-pair.auto.starts ∙ c.requires.starts
+
+pub overflow_mul-pair-end : goal.overflow_mul-pair-end
+overflow_mul-pair-end c =
+    let f = c.args.leaving.now.map.now.sizes in
+    omega (arith, pages-few f.node_count f.classes f.few_nodes f.few_classes)
+
+pub overflow_add-end : goal.overflow_add-end
+overflow_add-end c =
+    let f = c.args.leaving.now.map.now.sizes in
+    omega (arith, block-room f c.loop-pair.pair c.loop-pair-test.true, table-few f, c.loop-pair.invariant.few, c.requires.block, c.leave_pair-first.auto.block, c.loop-pair.auto.block)
+
+pub loop-pair-init : goal.loop-pair-init
+loop-pair-init c = record {
+  few = omega arith;
+  within = omega arith;
+  kept = record { within = λ q i l. absurd (omega (arith, l)); same = λ q i t l. absurd (omega (arith, l)) };
+  first = λ b i l m n. absurd (omega (arith, n));
+}

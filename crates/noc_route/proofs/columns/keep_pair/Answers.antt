@@ -4,7 +4,7 @@ use Rattle.noc_topo.specs.Shape.{nodes}
 use Rattle.noc_route.specs.Columns.{AreKeptTo}
 use Rattle.noc_route.specs.Routes.{width}
 use Rattle.noc_route.proofs.EntryLemmas.{flat-below}
-use Rattle.noc_route.proofs.ColumnLemmas.{IsColumnAt-stands, block-row, column-below, column_of, column-room, kept-more, length-column_of, table-few}
+use Rattle.noc_route.proofs.ColumnLemmas.{IsColumnAt-stands, block-row, column-below, column_of, column-room, kept-more, length-column_of, table-few, column-in}
 use Rattle.noc_route.proofs.columns.keep_pair.Goals as goal
 
 pub loop-input-init : goal.loop-input-init
@@ -98,3 +98,30 @@ loop-input-preserved c =
     (kept-more f c.args.block.now c.args.sets.now c.loop-input.sets c.place-start.new.sets c.args.starts.now c.loop-input.starts c.args.pair c.args.first i c.loop-input.end start next
     c.requires.block inside there c.place-start.ensures.start (omega (arith, c.max-end.ensures)) (omega (arith, c.max-end.ensures, f.all_nodes)) (omega (arith, c.max-end.ensures, f.all_nodes, c.place-start.ensures.start))
     (IsColumnAt-stands f c.args.block.now c.place-start.new.sets f.node_count i start f.all_nodes row c.place-start.ensures.kept) others c.loop-input.invariant)
+
+pub overflow_mul-from : goal.overflow_mul-from
+overflow_mul-from c =
+    let f = c.args.sizes.now in
+    omega (arith, column-in f c.loop-input.input 0 (subst (λ x. c.loop-input.input < x) c.width-width.ensures.value c.loop-input-test.true) (omega (arith, f.some_nodes)))
+
+pub overflow_add-from : goal.overflow_add-from
+overflow_add-from c =
+    let f = c.args.sizes.now in
+    omega (arith, column-in f c.loop-input.input 0 (subst (λ x. c.loop-input.input < x) c.width-width.ensures.value c.loop-input-test.true) (omega (arith, f.some_nodes)), f.few_nodes)
+
+pub offset_bounds-block-from : goal.offset_bounds-block-from
+offset_bounds-block-from c =
+    let f = c.args.sizes.now in
+    omega (arith, column-in f c.loop-input.input 0 (subst (λ x. c.loop-input.input < x) c.width-width.ensures.value c.loop-input-test.true) (omega (arith, f.some_nodes)))
+
+pub place-start-requires-clause-order : goal.place-start-requires-clause-order
+place-start-requires-clause-order c = c.loop-input.invariant.grown
+
+pub slice_bounds-place-count : goal.slice_bounds-place-count
+slice_bounds-place-count c = omega arith
+
+pub returns : goal.returns
+returns c =
+    let f = c.args.sizes.now in
+    let last : c.loop-input.input ≡ width f.shape f.vcs = omega (arith, c.loop-input-test.false, c.loop-input.auto.input-end, c.width-width.ensures.value) in
+    subst (λ i. AreKeptTo f c.args.block.now c.args.sets.now c.loop-input.sets c.args.starts.now c.loop-input.starts c.args.pair c.args.first i c.loop-input.end) last c.loop-input.invariant

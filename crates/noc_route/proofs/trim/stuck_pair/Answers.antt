@@ -5,14 +5,9 @@ use Rattle.noc_topo.specs.Shape.{nodes}
 use Rattle.noc_route.specs.Entered.{sets_in}
 use Rattle.noc_route.specs.Routes.{width, pages}
 use Rattle.noc_route.specs.Trimming.{routes_in, comes_at, left_in, IsFirstStuck}
-use Rattle.noc_route.specs.declared.sizes.Sizes.{Sizes}
-use Rattle.noc_route.proofs.EntryLemmas.{flat-below, pages-few}
+use Rattle.noc_route.proofs.ColumnLemmas.{page-in}
+use Rattle.noc_route.proofs.EntryLemmas.{flat-below}
 use Rattle.noc_route.proofs.trim.stuck_pair.Goals as goal
-
-pages-in : (f : Sizes) (pair dst : ℕ) → pair < nodes f.shape * f.classes → dst < f.node_count → pair * f.node_count + dst < 262144
-pages-in f pair dst l m =
-    let here : pair < f.node_count * f.classes = subst (λ n. pair < n * f.classes) (sym f.all_nodes) l in
-    omega (arith, flat-below pair (f.node_count * f.classes) dst f.node_count here m, pages-few f.node_count f.classes f.few_nodes f.few_classes)
 
 pub stuck_page-first-requires-clause-page : goal.stuck_page-first-requires-clause-page
 stuck_page-first-requires-clause-page c =
@@ -38,10 +33,10 @@ stuck_page-first-requires-clause-first c =
     subst P (sym f.all_nodes) c.loop-dst.invariant
 
 pub overflow_mul-pair : goal.overflow_mul-pair
-overflow_mul-pair c = omega (arith, pages-in c.args.leaving.now.map.now.sizes c.args.pair c.loop-dst.dst c.requires.pair c.loop-dst-test.true)
+overflow_mul-pair c = omega (arith, page-in c.args.leaving.now.map.now.sizes c.args.pair c.loop-dst.dst c.requires.pair c.loop-dst-test.true)
 
 pub overflow_add-pair : goal.overflow_add-pair
-overflow_add-pair c = omega (arith, pages-in c.args.leaving.now.map.now.sizes c.args.pair c.loop-dst.dst c.requires.pair c.loop-dst-test.true)
+overflow_add-pair c = omega (arith, page-in c.args.leaving.now.map.now.sizes c.args.pair c.loop-dst.dst c.requires.pair c.loop-dst-test.true)
 
 pub loop-dst-preserved : goal.loop-dst-preserved
 loop-dst-preserved c =
@@ -57,3 +52,20 @@ returns c =
     let P : ℕ → Type 0 = λ n. IsFirstStuck (routes_in f (left_in f (sets_in f c.args.entered.now) c.args.leaving.now.outs.now)) c.args.leaving.now.outs.now (n * width f.shape f.vcs) c.loop-dst.first in
     let all : c.args.pair * nodes f.shape + c.loop-dst.dst ≡ (c.args.pair + 1) * nodes f.shape = omega (arith, c.loop-dst-test.false, c.loop-dst.auto.dst-end, f.all_nodes) in
     subst P all c.loop-dst.invariant
+
+pub stuck_page-first-requires-clause-all : goal.stuck_page-first-requires-clause-all
+stuck_page-first-requires-clause-all c = c.requires.all
+
+pub bounds-coming-dst : goal.bounds-coming-dst
+bounds-coming-dst c = omega (arith, c.loop-dst-test.true, c.args.leaving.now.map.now.sizes.all_nodes, c.requires.len)
+
+pub offset_bounds-coming-dst : goal.offset_bounds-coming-dst
+offset_bounds-coming-dst c = omega (arith, c.loop-dst-test.true, c.args.leaving.now.map.now.sizes.few_nodes)
+
+pub loop-dst-init : goal.loop-dst-init
+loop-dst-init c =
+    let f = c.args.leaving.now.map.now.sizes in
+    let outs = c.args.leaving.now.outs.now in
+    let P : ℕ → Type 0 = λ n. IsFirstStuck (routes_in f (left_in f (sets_in f c.args.entered.now) outs)) outs (n * width f.shape f.vcs) c.args.first in
+    let none : c.args.pair * nodes f.shape ≡ c.args.pair * nodes f.shape + 0 = omega arith in
+    subst P none c.requires.first

@@ -9,7 +9,7 @@ use Rattle.noc_route.specs.Trimming.{routes_in, page_set, reached_at}
 use Rattle.noc_route.specs.declared.entered.Entered.{Entered}
 use Rattle.noc_route.proofs.EntryLemmas.{flat-below}
 use Rattle.noc_route.proofs.EnterLemmas.{page_set-pages}
-use Rattle.noc_route.proofs.ColumnLemmas.{row-end, block-below}
+use Rattle.noc_route.proofs.ColumnLemmas.{row-end, block-below, page-in, column-in, width-in}
 use Rattle.std.proofs.lemmas.List.{get_or_default}
 use Rattle.noc_steps.proofs.WrittenLemmas.{StandsTo, LeavesOthers, written-more, others-more}
 use Rattle.noc_route.proofs.trim.trim_column.Goals as goal
@@ -91,3 +91,55 @@ loop-dst-preserved c =
       column = subst P (sym f.all_nodes) (written-more want c.loop-dst.block (input * n) dst c.only_if.result there is c.loop-dst.invariant.column);
       others = subst Q (sym f.all_nodes) (others-more c.args.block.now c.loop-dst.block (input * n) dst c.only_if.result c.loop-dst.invariant.others);
     }
+
+pub take_row-requires-clause-input : goal.take_row-requires-clause-input
+take_row-requires-clause-input c = omega (arith, c.requires.input, width-in c.args.sizes.now)
+
+pub set-set-requires-clause-all : goal.set-set-requires-clause-all
+set-set-requires-clause-all c = c.requires.all
+
+pub set-set-requires-clause-input : goal.set-set-requires-clause-input
+set-set-requires-clause-input c = c.requires.input
+
+pub overflow_mul-pair : goal.overflow_mul-pair
+overflow_mul-pair c =
+    let f = c.args.sizes.now in
+    omega (arith, page-in f c.args.pair 0 c.requires.pair (omega (arith, f.some_nodes)))
+
+pub overflow_mul-input : goal.overflow_mul-input
+overflow_mul-input c =
+    let f = c.args.sizes.now in
+    omega (arith, column-in f c.args.input 0 c.requires.input (omega (arith, f.some_nodes)))
+
+pub overflow_mul-pair-in-loop-dst : goal.overflow_mul-pair-in-loop-dst
+overflow_mul-pair-in-loop-dst c = omega (arith, page-in c.args.sizes.now c.args.pair c.loop-dst.dst c.requires.pair c.loop-dst-test.true)
+
+pub overflow_add-pair : goal.overflow_add-pair
+overflow_add-pair c = omega (arith, page-in c.args.sizes.now c.args.pair c.loop-dst.dst c.requires.pair c.loop-dst-test.true)
+
+pub overflow_mul-input-in-loop-dst : goal.overflow_mul-input-in-loop-dst
+overflow_mul-input-in-loop-dst c = omega (arith, column-in c.args.sizes.now c.args.input c.loop-dst.dst c.requires.input c.loop-dst-test.true)
+
+pub overflow_add-input : goal.overflow_add-input
+overflow_add-input c = omega (arith, column-in c.args.sizes.now c.args.input c.loop-dst.dst c.requires.input c.loop-dst-test.true)
+
+pub bounds-coming-dst : goal.bounds-coming-dst
+bounds-coming-dst c = omega (arith, c.loop-dst-test.true, c.args.sizes.now.all_nodes, c.requires.coming)
+
+pub offset_bounds-coming-dst : goal.offset_bounds-coming-dst
+offset_bounds-coming-dst c = omega (arith, c.loop-dst-test.true, c.args.sizes.now.few_nodes)
+
+pub offset_bounds-block-input : goal.offset_bounds-block-input
+offset_bounds-block-input c = omega (arith, column-in c.args.sizes.now c.args.input c.loop-dst.dst c.requires.input c.loop-dst-test.true)
+
+pub loop-dst-init : goal.loop-dst-init
+loop-dst-init c = record { column = λ t l. absurd (omega (arith, l)); others = λ j _. refl }
+
+pub returns-clause-column : goal.returns-clause-column
+returns-clause-column c = λ t l. c.loop-dst.invariant.column t (omega (arith, l, c.loop-dst-test.false, c.args.sizes.now.all_nodes))
+
+pub returns-clause-others : goal.returns-clause-others
+returns-clause-others c = λ j outside.
+    let from = c.args.input * nodes c.args.sizes.now.shape in
+    let last : nodes c.args.sizes.now.shape ≡ c.loop-dst.dst = omega (arith, c.loop-dst-test.false, c.loop-dst.auto.dst-end, c.args.sizes.now.all_nodes) in
+    c.loop-dst.invariant.others j (subst (λ m. (j < from) ⊎ (from + m ≤ j)) last outside)

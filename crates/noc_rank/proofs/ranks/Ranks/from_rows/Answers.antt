@@ -50,3 +50,9 @@ returns-in_err-named-clause-err c = let p = err_from_is_err_and c.from_residual-
 
 pub returns-in_err-enter-clause-ok : goal.returns-in_err-enter-clause-ok
 returns-in_err-enter-clause-ok c = let p = err_from_is_err_and c.from_residual-in_err-enter.result c.from_residual-in_err-enter.ensures.1 in rw p.1 tt
+
+pub returns-in-Some-clause-ok : goal.returns-in-Some-clause-ok
+returns-in-Some-clause-ok c = tt
+
+pub returns-in-None-clause-err : goal.returns-in-None-clause-err
+returns-in-None-clause-err c = tt

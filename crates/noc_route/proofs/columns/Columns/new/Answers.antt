@@ -6,6 +6,7 @@ use Rattle.noc_route.specs.Entered.{sets_in}
 use Rattle.noc_route.specs.Routes.{width}
 use Rattle.noc_route.specs.Trimming.{left_in}
 use Rattle.noc_route.proofs.ColumnLemmas.{all-within, all-written, table-kept, width-some}
+use Rattle.std.proofs.Math.Nat.{mul-le-mul_right}
 use Rattle.noc_route.proofs.columns.Columns.new.Goals as goal
 
 pub invariant_of-columns : goal.invariant_of-columns
@@ -34,3 +35,20 @@ returns-clause-table c =
 
 pub returns-clause-first : goal.returns-clause-first
 returns-clause-first c = c.in_ok-sets.ensures.first
+
+pub overflow_mul-sizes : goal.overflow_mul-sizes
+overflow_mul-sizes c = omega (arith, mul-le-mul_right c.width.result c.args.leaving.now.map.now.sizes.few_nodes, c.width.ensures.few)
+
+pub keep_all-kept-requires-clause-all : goal.keep_all-kept-requires-clause-all
+keep_all-kept-requires-clause-all c = c.requires
+
+pub keep_all-kept-requires-clause-coming : goal.keep_all-kept-requires-clause-coming
+keep_all-kept-requires-clause-coming c = c.deref_mut.ensures.len ∙ c.in_ok-coming.ensures.len ∙ c.args.leaving.now.map.now.sizes.all_nodes
+
+pub keep_all-kept-requires-clause-block : goal.keep_all-kept-requires-clause-block
+keep_all-kept-requires-clause-block c =
+    let f = c.args.leaving.now.map.now.sizes in
+    c.deref_mut-2.ensures.len ∙ c.in_ok-block.ensures.len ∙ ap (λ n. n * c.width.result) f.all_nodes ∙ ap (λ w. nodes f.shape * w) c.width.ensures.value
+
+pub keep_all-kept-requires-clause-starts : goal.keep_all-kept-requires-clause-starts
+keep_all-kept-requires-clause-starts c = c.deref_mut-3.ensures.len ∙ c.in_ok-starts.ensures.len ∙ c.columns.ensures.value

@@ -7,7 +7,8 @@ use Rattle.noc_router.specs.Sound.{is_awaiting}
 use Rattle.noc_view.specs.View.{View, view_after_inject}
 use Rattle.noc_view.proofs.SiteLemmas.{injected-site}
 use Rattle.noc_router.proofs.InjectLemmas.{injected-nothing, queue-nothing, stays-view, goes-view}
-use Rattle.noc_router.proofs.RouterLemmas.{local-index}
+use Rattle.noc_router.proofs.RouterLemmas.{at-cycle, local-index}
+use Rattle.noc_router.proofs.WholeLemmas.{few-channels}
 use Rattle.noc_router.proofs.router.Router.inject.Goals as goal
 
 pub returns-in_default-clause-view : goal.returns-in_default-clause-view
@@ -48,3 +49,22 @@ returns-in_default-next_flit-clause-site c = ap (λ (x : View). x.site) (returns
 
 pub returns-clause-site : goal.returns-clause-site
 returns-clause-site c = ap (λ (x : View). x.site) (returns-clause-view c) ∙ injected-site c.args.cycle c.args.self.now
+
+pub overflow_mul-self-inside : goal.overflow_mul-self-inside
+overflow_mul-self-inside c =
+    let r = c.self.inside in
+    omega (arith, in_ready r.ports r.vcs (r.ports - 1) c.in-Some.vc (omega arith) c.in-Some.ensures.within, few-channels r c.self.invariant)
+
+pub overflow_add-self-inside : goal.overflow_add-self-inside
+overflow_add-self-inside c =
+    let r = c.self.inside in
+    omega (arith, in_ready r.ports r.vcs (r.ports - 1) c.in-Some.vc (omega arith) c.in-Some.ensures.within, few-channels r c.self.invariant)
+
+pub invariant_of-self : goal.invariant_of-self
+invariant_of-self c = at-cycle c.self.inside c.args.cycle c.self.invariant
+
+pub invariant_of-self-in_default : goal.invariant_of-self-in_default
+invariant_of-self-in_default c = at-cycle c.self.inside c.args.cycle c.self.invariant
+
+pub invariant_of-self-in_default-next_flit : goal.invariant_of-self-in_default-next_flit
+invariant_of-self-in_default-next_flit c = at-cycle c.self.inside c.args.cycle c.self.invariant
