@@ -10,12 +10,11 @@ use Rattle.noc_sets.specs.Column.{Column, RouterMarks}
 use Rattle.noc_sets.specs.Grants.{HasAllocated, HasGranted, IsBound, KeepsInput, KeepsOutput}
 use Rattle.noc_sets.specs.Sets.{least, less}
 use Rattle.noc_sets.specs.Turns.{in_turn}
-use Rattle.noc_sets.proofs.MemberLemmas.{eq-turned, least_is, or-false, or-left, or-right}
+use Rattle.noc_sets.proofs.MemberLemmas.{and-false, eq-turned, least_is, or-false, or-left, or-right}
 use Rattle.noc_sets.proofs.TurnLemmas.{first-among}
 use Rattle.noc_columns.specs.Allotted.{Allotment, HasAllotted, ShowsOwned, allotted_after, allotted_before, allotted_marks, given_to}
 use Rattle.noc_columns.specs.Grants.{first_of}
 use Rattle.noc_columns.specs.Words.{set_below}
-use Rattle.noc_columns.proofs.LoopLemmas.{and-false}
 use Rattle.noc_columns.proofs.AllotmentLemmas.{fits-below}
 use Rattle.noc_columns.proofs.AskLemmas.{asks-idle, asks-wait, in-word}
 use Rattle.noc_columns.proofs.ChannelLemmas.{part, port-below, whole}

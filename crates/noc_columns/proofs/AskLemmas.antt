@@ -8,8 +8,8 @@ use Rattle.noc_packet.specs.Set.{has_bit, IsLeast}
 use Rattle.noc_packet.proofs.SetLemmas.{both_members, has_bit-zero, either_members, zero_from_none}
 use Rattle.noc_sets.specs.Grants.{AreAsks, asked_of}
 use Rattle.noc_sets.specs.Sets.{least, less, lowest}
-use Rattle.noc_sets.proofs.MemberLemmas.{above_64, least_below, least_is, less_members, lowest-is, or-cases, or-false, or-left, or-right, or-zero, power-members}
-use Rattle.noc_columns.proofs.LoopLemmas.{all-done, and-false, and-true, least-same, left-part, none-left, not-done, not-left}
+use Rattle.noc_sets.proofs.MemberLemmas.{above_64, and-false, and-true, least_below, least_is, less_members, lowest-is, or-cases, or-false, or-left, or-right, or-zero, power-members}
+use Rattle.noc_columns.proofs.LoopLemmas.{all-done, least-same, left-part, none-left, not-done, not-left}
 
 -- ---- one more channel asks
 -- the members that a test has, and one more

@@ -6,7 +6,7 @@ use Rattle.std.proofs.lemmas.Nat.{div-mul-add, mod-mul-add, mod_below}
 use Rattle.noc_columns.specs.Picks.{channels_of, port_of}
 use Rattle.noc_columns.specs.Words.{AreApart}
 use Rattle.noc_columns.specs.declared.ports.RouterPorts.{RouterPorts}
-use Rattle.noc_columns.proofs.LoopLemmas.{and-false}
+use Rattle.noc_sets.proofs.MemberLemmas.{and-false}
 use Rattle.noc_columns.proofs.PickLemmas.{apart}
 use Rattle.noc_columns.proofs.PortLemmas.{link-before, link-index, local-place}
 

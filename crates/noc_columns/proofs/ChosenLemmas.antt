@@ -8,11 +8,10 @@ use Rattle.noc_alloc.specs.Members.{MembersAreBelow}
 use Rattle.noc_sets.specs.Column.{Column, RouterMarks}
 use Rattle.noc_sets.specs.Routed.{HasChosen, HasRouted}
 use Rattle.noc_sets.specs.Sets.{least}
-use Rattle.noc_sets.proofs.MemberLemmas.{or-zero}
+use Rattle.noc_sets.proofs.MemberLemmas.{and-false, or-zero}
 use Rattle.noc_columns.specs.Allotted.{Allotment, HasAllotted, allotted_after, allotted_before, allotted_marks, given_to, routed_after}
 use Rattle.noc_columns.specs.Wants.{asks_of}
 use Rattle.noc_columns.specs.Words.{set_below}
-use Rattle.noc_columns.proofs.LoopLemmas.{and-false}
 use Rattle.noc_columns.proofs.AllocatedLemmas.{is-allocated}
 use Rattle.noc_columns.proofs.SetLemmas.{below-members}
 

@@ -5,10 +5,10 @@ use Rattle.std.proofs.lemmas.Bool.{and_parts, cases_Bool, cases_eq, cases_lt, eq
 use Rattle.noc_packet.specs.Set.{has_bit, IsLeast}
 use Rattle.noc_packet.proofs.SetLemmas.{both_members, either_members, has_bit-zero, same_set}
 use Rattle.noc_sets.specs.Sets.{less, lowest}
-use Rattle.noc_sets.proofs.MemberLemmas.{or-false}
+use Rattle.noc_sets.proofs.MemberLemmas.{and-true, or-false}
 use Rattle.noc_columns.specs.Words.{AreApart, Numbering, set_of, word}
 use Rattle.noc_columns.proofs.AskLemmas.{asked-none}
-use Rattle.noc_columns.proofs.LoopLemmas.{and-true, but_lowest-is, left-members, none-left}
+use Rattle.noc_columns.proofs.LoopLemmas.{but_lowest-is, left-members, none-left}
 use Rattle.noc_columns.proofs.MarkLemmas.{entry-put}
 use Rattle.noc_columns.proofs.SetLemmas.{below-members}
 use Rattle.noc_columns.proofs.SupplyLemmas.{member-is}

@@ -6,13 +6,12 @@ use Rattle.noc_packet.specs.Set.{IsLeast, has_bit}
 use Rattle.noc_packet.proofs.SetLemmas.{either_members, has_bit-zero}
 use Rattle.noc_alloc.specs.Members.{MembersAreBelow}
 use Rattle.noc_sets.specs.Turns.{first_bit, in_turn}
-use Rattle.noc_sets.proofs.MemberLemmas.{lowest-one, or-cases, or-left, or-none, or-right, or-zero, power-members}
+use Rattle.noc_sets.proofs.MemberLemmas.{and-false, lowest-one, or-cases, or-left, or-none, or-right, or-zero, power-members}
 use Rattle.noc_columns.specs.Grants.{AreGranted, IsNumbered, first_of}
 use Rattle.noc_columns.specs.Supply.{digits_by, number_in}
 use Rattle.noc_columns.specs.Words.{AreApart, Numbering, set_of, word}
 use Rattle.noc_columns.specs.declared.given.Grants.{Grants}
 use Rattle.noc_columns.specs.declared.supply.Digits.{Digits}
-use Rattle.noc_columns.proofs.LoopLemmas.{and-false}
 use Rattle.noc_columns.proofs.PastLemmas.{first-some}
 use Rattle.noc_columns.proofs.PortLemmas.{lowest-least}
 use Rattle.noc_columns.proofs.SupplyLemmas.{number-is}

@@ -6,9 +6,8 @@ use Rattle.noc_packet.specs.Set.{has_bit}
 use Rattle.noc_packet.proofs.SetLemmas.{either_members}
 use Rattle.noc_sets.specs.Column.{RouterMarks}
 use Rattle.noc_sets.specs.Routed.{HasRouted}
-use Rattle.noc_sets.proofs.MemberLemmas.{or-false, or-left, or-right, power-members, same-word}
+use Rattle.noc_sets.proofs.MemberLemmas.{and-false, or-false, or-left, or-right, or-true, power-members, same-word}
 use Rattle.noc_columns.specs.Heads.{Heading, headed, headed_marks}
-use Rattle.noc_columns.proofs.LoopLemmas.{and-false, or-true}
 
 -- what routing changes of a router, part by part
 abbrev pub the-heading : ℕ → ℕ → (ℕ → ℕ) → Heading

@@ -7,14 +7,13 @@ use Rattle.noc_packet.proofs.SetLemmas.{both_members, has_bit-zero}
 use Rattle.noc_sets.specs.Planes.{any_from, wrong_from}
 use Rattle.noc_sets.specs.Sets.{less, lowest}
 use Rattle.noc_sets.specs.Unions.{some_below, union_from}
-use Rattle.noc_sets.proofs.MemberLemmas.{less_members, same-word}
+use Rattle.noc_sets.proofs.MemberLemmas.{and-false, and-true, less_members, not-not, same-word}
 use Rattle.noc_columns.specs.Picks.{port_at}
 use Rattle.noc_columns.specs.Planes.{list_of, planes_by}
 use Rattle.noc_columns.specs.Words.{Numbering, all_of, set_alike, set_below, set_by, set_of, word}
 use Rattle.noc_columns.specs.declared.channels.Inputs.{Inputs}
 use Rattle.noc_columns.specs.declared.planes.Planes.{Planes}
 use Rattle.noc_columns.specs.declared.ports.Ports.{Ports}
-use Rattle.noc_columns.proofs.LoopLemmas.{and-false, and-true, not-not}
 use Rattle.noc_columns.proofs.PassLemmas.{some-same}
 use Rattle.noc_columns.proofs.PickLemmas.{below-some, chain-lowest, find-first, none-each, some-asks, some-each, union-members}
 use Rattle.noc_columns.proofs.PlaneLemmas.{any_term, leaves, likes, value-any, value-leaves, value-likes, value-wrong, wrong_term}

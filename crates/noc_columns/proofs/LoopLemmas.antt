@@ -6,7 +6,7 @@ use Rattle.std.proofs.lemmas.Bool.{and_parts, cases_eq, eq-eqb, ne_eqb, false≢
 use Rattle.noc_packet.specs.Set.{has_bit, IsLeast}
 use Rattle.noc_packet.proofs.SetLemmas.{both_members, has_bit-zero, least-one, same_set}
 use Rattle.noc_sets.specs.Sets.{least, less, lowest}
-use Rattle.noc_sets.proofs.MemberLemmas.{least_is, less_members, lowest_members}
+use Rattle.noc_sets.proofs.MemberLemmas.{and-false, and-true, least_is, less_members, lowest_members}
 
 -- the members but the least: `a & (a - 1)`
 pub but_lowest-is : (a : ℕ) → bit_and a (a - 1) ≡ less a (lowest a)
@@ -27,22 +27,6 @@ least-same a t some fits is = same (least-one (has_bit a) (Some t) (Some (least 
 -- the members that are left
 pub left-members : (rest t k : ℕ) → IsLeast (has_bit rest) (Some t) → has_bit (less rest (lowest rest)) k ≡ (has_bit rest k && not (nat_eq k t))
 left-members rest t k is = less_members rest (lowest rest) k ∙ ap (λ b. has_bit rest k && not b) (lowest_members rest t k is)
-
-pub and-true : (b : Bool) → (b && true) ≡ b
-and-true true = refl
-and-true false = refl
-
-pub and-false : (b : Bool) → (b && false) ≡ false
-and-false true = refl
-and-false false = refl
-
-pub or-true : (b : Bool) → (b || true) ≡ true
-or-true true = refl
-or-true false = refl
-
-pub not-not : (b : Bool) → not (not b) ≡ b
-not-not true = refl
-not-not false = refl
 
 -- those that are left are members
 pub left-part : (set rest t : ℕ) → IsLeast (has_bit rest) (Some t) → ((i : ℕ) → has_bit rest i ≡ true → has_bit set i ≡ true)

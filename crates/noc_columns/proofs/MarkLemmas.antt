@@ -5,11 +5,10 @@ use Rattle.std.proofs.lemmas.Bool.{and_parts, cases_eq, eq-eqb, ne_eqb, false≢
 use Rattle.noc_packet.specs.Set.{has_bit}
 use Rattle.noc_packet.proofs.SetLemmas.{both_members, either_members, has_bit-zero, same_set}
 use Rattle.noc_topo.specs.Lists.{one_if}
-use Rattle.noc_sets.proofs.MemberLemmas.{or-false, power-members}
+use Rattle.noc_sets.proofs.MemberLemmas.{and-false, and-true, or-false, power-members}
 use Rattle.noc_columns.specs.Marks.{ChangesIdle}
 use Rattle.noc_columns.specs.Wants.{asks_of}
 use Rattle.noc_columns.specs.declared.marks.Marks.{Marks}
-use Rattle.noc_columns.proofs.LoopLemmas.{and-false, and-true}
 use Rattle.noc_columns.proofs.PlaceLemmas.{one-router}
 
 -- an entry that is written

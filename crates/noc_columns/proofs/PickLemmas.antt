@@ -7,10 +7,9 @@ use Rattle.noc_packet.proofs.SetLemmas.{both_members, either_members, first_of_b
 use Rattle.noc_sets.specs.Sets.{less, lowest}
 use Rattle.noc_sets.specs.Turns.{first_bit, in_turn}
 use Rattle.noc_sets.specs.Unions.{some_below, union_from}
-use Rattle.noc_sets.proofs.MemberLemmas.{less_members, lowest_members, or-false, or-none, same-word, zero_members}
+use Rattle.noc_sets.proofs.MemberLemmas.{and-false, and-true, less_members, lowest_members, not-not, or-false, or-none, or-true, same-word, zero_members}
 use Rattle.noc_columns.specs.Picks.{turn_word}
 use Rattle.noc_columns.specs.Words.{Numbering, set_below, set_of, word}
-use Rattle.noc_columns.proofs.LoopLemmas.{and-false, and-true, not-not, or-true}
 use Rattle.noc_columns.proofs.PassLemmas.{some-same}
 use Rattle.noc_columns.proofs.SetLemmas.{below-both, below-members, below-same}
 

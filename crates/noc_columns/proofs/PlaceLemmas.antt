@@ -16,7 +16,7 @@ use Rattle.noc_columns.specs.Places.{AreFar, AreFarIn, IsNear, far_places, place
 use Rattle.noc_columns.specs.Words.{set_below, word}
 use Rattle.noc_columns.specs.declared.neighbours.Far.{Far}
 use Rattle.noc_columns.specs.declared.neighbours.Near.{Near}
-use Rattle.noc_columns.proofs.LoopLemmas.{and-false}
+use Rattle.noc_sets.proofs.MemberLemmas.{and-false}
 use Rattle.noc_columns.proofs.NearLemmas.{neighbour-is}
 use Rattle.noc_columns.proofs.PickLemmas.{apart}
 use Rattle.noc_columns.proofs.SetLemmas.{below-members}

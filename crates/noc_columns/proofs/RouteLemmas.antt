@@ -4,8 +4,7 @@ use Rattle.std.specs.Prelude.{◌&&◌, ◌||◌, nat_eq, nat_lt}
 use Rattle.std.proofs.lemmas.Bool.{cases_Bool, cases_eq, cases_lt, eq-eqb, le-ltb, lt-ltb, ne_eqb}
 use Rattle.noc_packet.specs.Set.{has_bit}
 use Rattle.noc_packet.proofs.SetLemmas.{either_members, has_bit-below, has_bit-zero}
-use Rattle.noc_sets.proofs.MemberLemmas.{or-false, same-word}
-use Rattle.noc_columns.proofs.LoopLemmas.{and-false}
+use Rattle.noc_sets.proofs.MemberLemmas.{and-false, or-false, same-word}
 
 pub members-none : (set k : ℕ) → has_bit 0 k ≡ (nat_lt k 0 && has_bit set k)
 members-none set k = has_bit-zero k ∙ sym (ap (λ b. b && has_bit set k) (le-ltb k 0 (omega arith)))

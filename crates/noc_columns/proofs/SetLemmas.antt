@@ -5,9 +5,8 @@ use Rattle.std.proofs.lemmas.Bool.{cases_eq, cases_lt, lt-ltb, le-ltb, eq-eqb, n
 use Rattle.noc_packet.specs.Set.{has_bit}
 use Rattle.noc_packet.proofs.SetLemmas.{both_members, either_members, has_bit-zero}
 use Rattle.noc_sets.specs.Sets.{differ, less}
-use Rattle.noc_sets.proofs.MemberLemmas.{less_members, or-false, power-members, same-word, xor_members}
+use Rattle.noc_sets.proofs.MemberLemmas.{and-false, and-true, less_members, or-false, power-members, same-word, xor_members}
 use Rattle.noc_columns.specs.Words.{Numbering, set_alike, set_below, set_by, set_of, word}
-use Rattle.noc_columns.proofs.LoopLemmas.{and-false, and-true}
 
 -- ---- the members of a set that is told by a test
 pub one-members : (b : Bool) (n k : ℕ) → has_bit (if b then 2 ^ n else 0) k ≡ (nat_eq k n && b)

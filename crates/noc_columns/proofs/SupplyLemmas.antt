@@ -5,7 +5,7 @@ use Rattle.noc_topo.specs.Lists.{one_if}
 use Rattle.noc_packet.specs.Set.{has_bit}
 use Rattle.noc_packet.proofs.SetLemmas.{both_members, either_members, has_bit-zero}
 use Rattle.noc_sets.specs.Sets.{differ}
-use Rattle.noc_sets.proofs.MemberLemmas.{ones-members, or-false, xor_members}
+use Rattle.noc_sets.proofs.MemberLemmas.{and-true, ones-members, or-false, or-true, xor_members}
 use Rattle.std.proofs.lemmas.Nat.{mul-add-lt}
 use Rattle.std.proofs.lemmas.Bool.{cases_eq, cases_lt, eq-eqb, le-ltb, lt-ltb, ne_eqb}
 use Rattle.noc_columns.specs.Picks.{port_at}
@@ -15,7 +15,6 @@ use Rattle.noc_columns.specs.declared.ports.Ports.{Ports}
 use Rattle.noc_columns.specs.declared.supply.Digits.{Digits}
 use Rattle.noc_columns.specs.declared.supply.Sends.{Sends}
 use Rattle.noc_columns.specs.declared.supply.TheConstants.{FOURS, ONES, TWOS}
-use Rattle.noc_columns.proofs.LoopLemmas.{and-true, or-true}
 use Rattle.noc_columns.proofs.SetLemmas.{below-members}
 
 -- the number with these bits

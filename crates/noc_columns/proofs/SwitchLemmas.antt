@@ -13,7 +13,7 @@ use Rattle.noc_sets.specs.Passes.{Effects}
 use Rattle.noc_sets.specs.Sets.{least, lowest, of_one}
 use Rattle.noc_sets.specs.Turns.{in_turn}
 use Rattle.noc_sets.specs.Unions.{rest_from, some_below, union_from}
-use Rattle.noc_sets.proofs.MemberLemmas.{below_fits, least_is, less_members, lowest_members, power-members, same-word, zero_members}
+use Rattle.noc_sets.proofs.MemberLemmas.{and-false, and-true, below_fits, least_is, less_members, lowest_members, power-members, same-word, zero_members}
 use Rattle.noc_sets.proofs.TurnLemmas.{first-among}
 use Rattle.noc_columns.specs.Switch.{HasTraversed, PortPicks, ShowsOutputs, ShowsPicks, asks_for, channels_at, leaves_by, switched_effects, switched_marks, taken_by}
 use Rattle.noc_columns.specs.Words.{set_below}
@@ -24,7 +24,6 @@ use Rattle.noc_columns.proofs.PickLemmas.{apart, find-first, none-each, union-me
 use Rattle.noc_columns.proofs.PortLemmas.{lowest-alone, lowest-least, one-both, some-member}
 use Rattle.noc_columns.proofs.RouterLemmas.{below-fits}
 use Rattle.noc_columns.proofs.SetLemmas.{below-members, below-same}
-use Rattle.noc_columns.proofs.LoopLemmas.{and-false, and-true}
 use Rattle.noc_sets.proofs.UnionLemmas.{some-none}
 
 -- a test of all with a fact beside it

@@ -7,13 +7,13 @@ use Rattle.noc_packet.specs.Set.{has_bit, IsLeast}
 use Rattle.noc_packet.proofs.SetLemmas.{both_members, either_members, has_bit-zero, same_set}
 use Rattle.noc_sets.specs.Sets.{less, lowest}
 use Rattle.noc_sets.specs.Unions.{union_from}
-use Rattle.noc_sets.proofs.MemberLemmas.{ones-members, or-false, or-zero}
+use Rattle.noc_sets.proofs.MemberLemmas.{and-false, and-true, ones-members, or-false, or-zero}
 use Rattle.noc_columns.specs.Picks.{channels_of, links_of}
 use Rattle.noc_columns.specs.Words.{AreApart, Numbering, set_of, word}
 use Rattle.noc_columns.specs.declared.ports.RouterPorts.{RouterPorts}
 use Rattle.noc_columns.proofs.ByRouterLemmas.{link-word, local-word}
 use Rattle.noc_columns.proofs.ChannelLemmas.{channels-apart, port-below, positive}
-use Rattle.noc_columns.proofs.LoopLemmas.{and-false, and-true, left-members}
+use Rattle.noc_columns.proofs.LoopLemmas.{left-members}
 use Rattle.noc_columns.proofs.PickLemmas.{apart}
 use Rattle.noc_columns.proofs.PortLemmas.{link-index, member-below}
 use Rattle.noc_columns.proofs.SetLemmas.{one-members}

@@ -16,13 +16,12 @@ use Rattle.noc_sets.specs.Unions.{some_below}
 use Rattle.noc_sets.proofs.UnionLemmas.{union-members}
 use Rattle.noc_columns.proofs.AskLemmas.{asks-idle, in-word}
 use Rattle.noc_columns.proofs.PickLemmas.{Found, find-first, some-each}
-use Rattle.noc_sets.proofs.MemberLemmas.{above_64, below_fits, less_members, power-members}
+use Rattle.noc_sets.proofs.MemberLemmas.{above_64, and-false, below_fits, less_members, or-true, power-members}
 use Rattle.noc_sets.proofs.TurnLemmas.{first-among}
 use Rattle.noc_columns.specs.declared.channels.Decided.{Decided}
 use Rattle.noc_columns.specs.declared.channels.Links.{Links}
 use Rattle.noc_columns.specs.declared.channels.Standing.{Standing}
 use Rattle.noc_columns.specs.declared.channels.Verdicts.{Verdicts}
-use Rattle.noc_columns.proofs.LoopLemmas.{and-false, or-true}
 use Rattle.noc_cycles.specs.Concluding.{HasConcludedHeld}
 use Rattle.noc_cycles.specs.Deciding.{HasDecidedHeld, undecided}
 use Rattle.noc_cycles.specs.Held.{Held, ShowsStill}

@@ -8,7 +8,7 @@ use Rattle.noc_packet.specs.Set.{has_bit}
 use Rattle.noc_packet.proofs.SetLemmas.{has_bit-one, has_bit-none, has_bit-zero}
 use Rattle.noc_topo.specs.Lists.{one_if}
 use Rattle.noc_columns.specs.Words.{word}
-use Rattle.noc_columns.proofs.LoopLemmas.{and-false, and-true}
+use Rattle.noc_sets.proofs.MemberLemmas.{and-false, and-true}
 use Rattle.noc_counts.specs.Tallies.{at_level, bit_level, carry_over, number_by, sum_of}
 use Rattle.noc_counts.proofs.TallyLemmas.{added-three, number-none, number-next, number-same}
 

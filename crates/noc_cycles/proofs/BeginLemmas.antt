@@ -1,8 +1,7 @@
 -- The numbers of packets that begin are written.
 use Rattle.std.proofs.Common.{◌≡◌, ◌≢◌, ℕ, suc, ◌+◌, ◌-◌, ◌*◌, ◌^◌, ◌<◌, ◌≤◌, Bool, true, false, List, [], length, arith, refl, ap, ap₂, sym, ◌∙◌, inl, inr, set, get_or-set_same, get_or-set_other}
 use Rattle.std.specs.Prelude.{◌⊎◌, ◌&&◌, ◌||◌, nat_eq, if◌then◌else◌}
-use Rattle.noc_sets.proofs.MemberLemmas.{power-members}
-use Rattle.noc_columns.proofs.LoopLemmas.{and-false}
+use Rattle.noc_sets.proofs.MemberLemmas.{and-false, power-members}
 use Rattle.noc_cycles.proofs.Common.{cases_eq, cases_lt, eq-eqb, ne_eqb, has_bit, either_members, has_bit-zero, up_by, up_members, up_none, packet_in, set_below, word}
 
 -- the row of one router

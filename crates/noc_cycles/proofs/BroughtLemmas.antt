@@ -11,7 +11,7 @@ use Rattle.noc_columns.specs.Near.{comes_by, comes_from, comes_near}
 use Rattle.noc_columns.specs.Places.{AreFar, IsNear, far_places, places_by, stands_in}
 use Rattle.noc_columns.specs.declared.neighbours.Near.{Near}
 use Rattle.noc_columns.specs.declared.ports.Ports.{Ports}
-use Rattle.noc_columns.proofs.LoopLemmas.{and-false}
+use Rattle.noc_sets.proofs.MemberLemmas.{and-false}
 use Rattle.noc_columns.proofs.NearLemmas.{are-places, brought-is}
 use Rattle.noc_columns.proofs.PlaceLemmas.{near-and-far, near-or-far, stands-beyond}
 use Rattle.noc_cycles.specs.Around.{AreFarBy}

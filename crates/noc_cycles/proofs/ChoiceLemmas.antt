@@ -8,7 +8,7 @@ use Rattle.noc_columns.specs.Allotted.{Allotment, HasAllotted, allotted_after, a
 use Rattle.noc_columns.specs.Wants.{asks_of}
 use Rattle.noc_columns.proofs.AllocatedLemmas.{granted-is, shows-owned}
 use Rattle.noc_columns.proofs.ChosenLemmas.{is-chosen, not-allotted}
-use Rattle.noc_columns.proofs.LoopLemmas.{and-true}
+use Rattle.noc_sets.proofs.MemberLemmas.{and-true}
 use Rattle.noc_cycles.proofs.Common.{cases_eq, has_bit, has_bit-zero, RouterMarks, Still, less, less_members, or-zero, same-word, ShowsOwned, Standing, Held, ShowsStill, Pattern}
 use Rattle.noc_cycles.specs.Deciding.{undecided}
 use Rattle.noc_cycles.specs.May.{MayDecide}

@@ -5,8 +5,7 @@ use Rattle.std.proofs.Math.Nat.{mul-le-mul}
 use Rattle.std.proofs.lemmas.Bool.{le-leb, lt-leb}
 use Rattle.noc_topo.specs.Lists.{one_if}
 use Rattle.noc_sets.specs.Planes.{ArePlanes, plane_number}
-use Rattle.noc_sets.proofs.MemberLemmas.{ones-members}
-use Rattle.noc_columns.proofs.LoopLemmas.{and-true}
+use Rattle.noc_sets.proofs.MemberLemmas.{and-true, ones-members}
 use Rattle.noc_cycles.proofs.Common.{pow_mono, cases_eq, cases_lt, eq-eqb, le-ltb, lt-ltb, ne_eqb, has_bit, either_members, has_bit-zero, Layout, up_by, same-word, up_members, up_none, channels_of, list_of, planes_by, Numbering, all_of, set_alike, set_below, Planes, below-fits, below-members, FitsLayout, Pattern}
 use Rattle.noc_cycles.specs.Alike.{all_if, same_count}
 use Rattle.noc_cycles.specs.Taking.{links_count}

@@ -5,13 +5,12 @@ use Rattle.std.proofs.lemmas.List.{get_or-replicate, get_or-set_other, get_or-se
 use Rattle.std.proofs.lemmas.Nat.{shl_whole}
 use Rattle.std.proofs.Math.Nat.{mul-le-mul}
 use Rattle.std.proofs.Math.Seq.{get_or-append_seam}
-use Rattle.noc_sets.proofs.MemberLemmas.{ones-members}
+use Rattle.noc_sets.proofs.MemberLemmas.{and-true, ones-members}
 use Rattle.noc_columns.specs.Channels.{inputs_by, outputs_by}
 use Rattle.noc_columns.specs.Picks.{output_of}
 use Rattle.noc_columns.specs.Wants.{asks_of}
 use Rattle.noc_columns.specs.Words.{IsWithin}
 use Rattle.noc_columns.proofs.ChannelLemmas.{positive}
-use Rattle.noc_columns.proofs.LoopLemmas.{and-true}
 use Rattle.noc_columns.proofs.PortLemmas.{local-place}
 use Rattle.noc_columns.proofs.SetLemmas.{below-same, by-term, none}
 use Rattle.noc_cycles.proofs.Common.{cases_eq, cases_lt, le-ltb, lt-ltb, length-set, has_bit, has_bit-zero, same-word, channels_of, links_of, port_at, planes_by, source_in, Numbering, all_of, set_alike, set_below, set_of, word, Inputs, Links, Outputs, Planes, RouterPorts, part, port-below, apart, link-index, below-members, held_at, links_at, Block, Pattern}

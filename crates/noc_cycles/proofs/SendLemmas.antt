@@ -4,8 +4,7 @@ use Rattle.std.specs.Prelude.{◌⊎◌, ◌&&◌, ◌||◌, not, nat_eq, if◌t
 use Rattle.std.proofs.lemmas.Bool.{cases_Bool}
 use Rattle.noc_packet.proofs.SetLemmas.{same_set}
 use Rattle.noc_sets.specs.Passes.{injecting_after}
-use Rattle.noc_sets.proofs.MemberLemmas.{or-false}
-use Rattle.noc_columns.proofs.LoopLemmas.{and-false, and-true, or-true}
+use Rattle.noc_sets.proofs.MemberLemmas.{and-false, and-true, or-false, or-true}
 use Rattle.noc_columns.proofs.SourceLemmas.{none-or}
 use Rattle.noc_cycles.proofs.Common.{cases_eq, eq-eqb, ne_eqb, true≢false, has_bit, either_members, has_bit-zero, zero_from_none, less, up_by, Source, Start, start_in, less_members, or-zero, sent_if}
 use Rattle.noc_cycles.proofs.ShiftLemmas.{up-or, up-some, up-zero}

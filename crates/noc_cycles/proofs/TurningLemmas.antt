@@ -12,7 +12,7 @@ use Rattle.noc_sets.specs.Moves.{HasSwitched, chosen_by, single_in}
 use Rattle.noc_sets.specs.Passes.{Effects, lane_no_credit, lane_no_flit, lane_ready, settled_lane}
 use Rattle.noc_sets.specs.Planes.{lowered_by, more_than_one}
 use Rattle.noc_sets.specs.Turns.{ArePast}
-use Rattle.noc_sets.proofs.MemberLemmas.{either-zero}
+use Rattle.noc_sets.proofs.MemberLemmas.{and-false, and-true, either-zero}
 use Rattle.noc_sets.proofs.TurnLemmas.{first-among}
 use Rattle.noc_sets.proofs.UnionLemmas.{union-members}
 use Rattle.noc_columns.specs.Arrivals.{given_back}
@@ -28,7 +28,6 @@ use Rattle.noc_cycles.specs.Held.{ShowsMarks, column_by}
 use Rattle.noc_cycles.specs.Taking.{HasTaken, links_count}
 use Rattle.noc_cycles.specs.Through.{HasGoneThrough, Worked}
 use Rattle.noc_cycles.specs.Turning.{HasWorkedHeld, verdict_sets_by}
-use Rattle.noc_columns.proofs.LoopLemmas.{and-false, and-true}
 
 -- ---- the channels of links and of the local port
 module _ (pattern : Pattern) (layout : Layout) (fits : FitsLayout pattern layout) where

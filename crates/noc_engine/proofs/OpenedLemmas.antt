@@ -55,9 +55,6 @@ use Rattle.noc_engine.proofs.ListLemmas.{block-of, place-of, there}
 up-to : (size : ℕ) → size / 64 + min 1 (size % 64) ≡ (size + 63) / 64
 up-to size = omega arith
 
-pub few-blocks : (size count : ℕ) → size ≤ 256 → count ≡ div_ceil size 64 → 64 * count ≤ 256
-few-blocks size count few is = let all : count ≡ (size + 63) / 64 = is ∙ up-to size in omega (arith, few, all)
-
 pub blocks-are : (net : Setup) (plan : Plan) (size count : ℕ) → IsPlanOf net plan → size ≡ nodes net.relation.grid → 2 ≤ size → count ≡ div_ceil size 64 → count ≡ length plan.around.items
 blocks-are net plan size count of size_is some is =
     let many = length plan.around.items in

@@ -11,7 +11,7 @@ use Rattle.noc_sets.specs.Planes.{plane_number, any_from}
 use Rattle.noc_sets.specs.Taken.{with_one, landed_by}
 use Rattle.noc_sets.specs.Column.{Column}
 use Rattle.noc_sets.specs.Passes.{lane_begins, lane_free}
-use Rattle.noc_sets.proofs.MemberLemmas.{less_fits, less_members}
+use Rattle.noc_sets.proofs.MemberLemmas.{less_fits, less_members, or-false}
 use Rattle.noc_sets.proofs.PlaneLemmas.{filled-members}
 
 pub with-one-length : (flits : List Flit) (f : Option Flit) → length (with_one flits f) ≡ length flits + one_if (is_some f)
@@ -23,11 +23,7 @@ empty-length [] = le-ltb 0 0 (omega arith)
 empty-length (f ∷ flits) = lt-ltb 0 (length (f ∷ flits)) (omega arith)
 
 pub with-one-empty : (flits : List Flit) (f : Option Flit) → not (is_empty (with_one flits f)) ≡ (not (is_empty flits) || is_some f)
-with-one-empty flits None = sym (or_false (not (is_empty flits)))
-  where
-    or_false : (b : Bool) → (b || false) ≡ b
-    or_false true = refl
-    or_false false = refl
+with-one-empty flits None = sym (or-false (not (is_empty flits)))
 with-one-empty [] (Some f) = refl
 with-one-empty (g ∷ flits) (Some f) = refl
 

@@ -9,7 +9,7 @@ use Rattle.noc_packet.specs.Set.{has_bit}
 use Rattle.noc_packet.proofs.SetLemmas.{both_members, either_members, has_bit-zero}
 use Rattle.noc_sets.specs.Sets.{differ, less}
 use Rattle.noc_sets.specs.Planes.{plane_number, ArePlanes, raised_by, carry_of, AreAll, lowered_by, borrow_of, any_from, more_than_one, wrong_from}
-use Rattle.noc_sets.proofs.MemberLemmas.{xor_members, less_members, less_fits, and_fits, or_fits, xor_fits}
+use Rattle.noc_sets.proofs.MemberLemmas.{xor_members, less_members, less_fits, and_fits, or_fits, xor_fits, or-false}
 
 pub number-small : (planes : List ℕ) (x : ℕ) → plane_number planes x < 2 ^ length planes
 number-small [] x = omega arith
@@ -129,10 +129,6 @@ lowered-fits [] set fits small = tt
 lowered-fits (plane ∷ planes) set fits small = (xor_fits plane set fits.0 small, lowered-fits planes (less set plane) fits.1 (less_fits set plane small))
 
 -- ---- tests
-or_false : (b : Bool) → (b || false) ≡ b
-or_false true = refl
-or_false false = refl
-
 or_assoc : (a b c : Bool) → ((a || b) || c) ≡ (a || (b || c))
 or_assoc true b c = refl
 or_assoc false b c = refl
@@ -146,7 +142,7 @@ some_of false n = at (cases_lt 0 n)
     at (inr u) = le-ltb 0 (0 + 2 * n) (omega arith) ∙ sym (le-ltb 0 n u)
 
 pub any-members : (any : ℕ) (planes : List ℕ) (x : ℕ) → has_bit (any_from any planes) x ≡ (has_bit any x || nat_lt 0 (plane_number planes x))
-any-members any [] x = sym (or_false (has_bit any x))
+any-members any [] x = sym (or-false (has_bit any x))
 any-members any (plane ∷ planes) x =
     any-members (bit_or any plane) planes x
     ∙ ap (λ b. b || nat_lt 0 (plane_number planes x)) (either_members any plane x)
@@ -180,7 +176,7 @@ differ_bit a b m n = at a b (cases_eq m n)
 -- whether a number is not that by other planes
 wrong-from : (wrong : ℕ) (planes others : List ℕ) (x : ℕ) → length planes ≡ length others
     → has_bit (wrong_from wrong planes others) x ≡ (has_bit wrong x || not (nat_eq (plane_number planes x) (plane_number others x)))
-wrong-from wrong [] [] x long = sym (or_false (has_bit wrong x))
+wrong-from wrong [] [] x long = sym (or-false (has_bit wrong x))
 wrong-from wrong [] (other ∷ others) x long = absurd (omega arith)
 wrong-from wrong (plane ∷ planes) [] x long = absurd (omega arith)
 wrong-from wrong (plane ∷ planes) (other ∷ others) x long =

@@ -6,6 +6,7 @@ use Rattle.noc_packet.specs.declared.packet.Flit.{Flit}
 use Rattle.noc_view.specs.View.{is_tail}
 use Rattle.noc_sets.specs.Taken.{with_one}
 use Rattle.noc_sets.specs.Ended.{AreConsecutive, holds_tail}
+use Rattle.noc_sets.proofs.MemberLemmas.{and-false, and-true, or-false}
 
 -- the first of them is the tail only where it is the only one
 pub tail-first : (flits : List Flit) → AreConsecutive flits → is_tail (slice_get flits 0) ≡ (holds_tail flits && nat_eq (length flits) 1)
@@ -17,24 +18,12 @@ tail-first (f ∷ []) are = by f.last
     by false = refl
 tail-first (f ∷ g ∷ rest) are =
     are.0.inner ∙ sym (ap (λ b. holds_tail (f ∷ g ∷ rest) && b) (ne_eqb (suc (suc (length rest))) 1 (λ e. absurd (omega (arith, e)))) ∙ and-false (holds_tail (f ∷ g ∷ rest)))
-  where
-    and-false : (b : Bool) → (b && false) ≡ false
-    and-false true = refl
-    and-false false = refl
 
 -- one flit more
 pub tail-joined : (flits : List Flit) (one : Option Flit) → holds_tail (with_one flits one) ≡ (holds_tail flits || is_tail one)
 tail-joined flits None = sym (or-false (holds_tail flits))
-  where
-    or-false : (b : Bool) → (b || false) ≡ b
-    or-false true = refl
-    or-false false = refl
 tail-joined flits (Some f) = behind flits
   where
-    or-false : (b : Bool) → (b || false) ≡ b
-    or-false true = refl
-    or-false false = refl
-
     or-assoc : (a b c : Bool) → (a || (b || c)) ≡ ((a || b) || c)
     or-assoc true b c = refl
     or-assoc false b c = refl
@@ -52,7 +41,3 @@ tail-left (f ∷ []) are = by f.last
     by true = refl
     by false = refl
 tail-left (f ∷ g ∷ rest) are = sym (ap (λ b. (b || holds_tail (g ∷ rest)) && not b) are.0.inner ∙ and-true (holds_tail (g ∷ rest)))
-  where
-    and-true : (b : Bool) → (b && true) ≡ b
-    and-true true = refl
-    and-true false = refl

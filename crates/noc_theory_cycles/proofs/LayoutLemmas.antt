@@ -9,7 +9,7 @@ use Rattle.noc_packet.specs.Set.{has_bit}
 use Rattle.noc_alloc.specs.Members.{MembersAreBelow}
 use Rattle.noc_sets.specs.Opening.{AreSides}
 use Rattle.noc_sets.specs.Planes.{AreAll, ArePlanes, plane_number}
-use Rattle.noc_sets.proofs.MemberLemmas.{below_fits, up_members, up_none}
+use Rattle.noc_sets.proofs.MemberLemmas.{below_fits, up_members, up_none, and-true}
 use Rattle.noc_sets.proofs.PlaneLemmas.{number-small}
 use Rattle.noc_theory.specs.Good.{IsGoodSetup}
 use Rattle.noc_theory.specs.Network.{Setup}
@@ -109,10 +109,6 @@ module _ (net : Setup) (setup : IsGoodSetup net) (pattern : Pattern) (is : IsPat
       let count = of.count in
       let low : local_port net.relation.grid ≡ pattern.table.ports.links.width = omega (arith, count) in
       ap₂ (λ p w. p * w) low of.vcs
-
-  and-true : (b : Bool) → (b && true) ≡ b
-  and-true true = refl
-  and-true false = refl
 
   link-is : (k : ℕ) → has_bit (layout_of pattern).links k ≡ nat_lt k (local_port net.relation.grid * net.relation.vcs)
   link-is k = below-members (links_count pattern) (λ c. true) k ∙ and-true (nat_lt k (links_count pattern)) ∙ ap (nat_lt k) (sym side-is)

@@ -8,6 +8,7 @@ use Rattle.noc_sets.proofs.TailLemmas.{tail-first, tail-joined, tail-left}
 use Rattle.noc_theory_bits.proofs.Common.{and_parts, cases_lt, eq-eqb, le-ltb, lt-ltb, ne_eqb, has_bit, Beat, Flit, both_members, either_members, Routes, MembersAreBelow, Site, View, size_of, view_buffer, first_flit, is_tail, decisions_of, view_after_commit, HasInjected, injected_to, Column, RouterMarks, IsColumn, HasSize, HasTaken, credit_from, flit_from, less_members, AreMoved, AreTails, ShowsEnded, AreConsecutive, holds_tail, ShowsWires}
 use Rattle.noc_theory_bits.proofs.network.PutLemmas.{buffer-next}
 use Rattle.noc_theory_bits.proofs.routers.SettleLemmas.{committed-site}
+use Rattle.noc_sets.proofs.MemberLemmas.{and-true}
 
 or-below : (n a b : ℕ) → MembersAreBelow n a → MembersAreBelow n b → MembersAreBelow n (bit_or a b)
 or-below n a b la lb k e = by (has_bit a k) refl
@@ -106,7 +107,3 @@ module _ (count : ℕ) (c : Column) (m : RouterMarks) (v : View) (ended : ℕ) (
             ap (λ b. holds_tail (view_buffer v i) && not (b && is_tail (first_flit v i))) e
             ∙ and-true (holds_tail (view_buffer v i))
             ∙ sym (ap holds_tail (buffer-next relation v moved size.some are size i u ∙ ap (λ b. if b then drop 1 (view_buffer v i) else view_buffer v i) e))
-          where
-            and-true : (b : Bool) → (b && true) ≡ b
-            and-true true = refl
-            and-true false = refl

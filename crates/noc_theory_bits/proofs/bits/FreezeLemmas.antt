@@ -5,7 +5,7 @@ use Rattle.std.specs.Prelude.{◌⊎◌, ◌&&◌, ◌||◌, is_some, nat_eq, na
 use Rattle.std.proofs.Math.Pow.{pow_pos}
 use Rattle.noc_sets.specs.Passes.{frozen_column, lane_filled, lane_free}
 use Rattle.noc_sets.specs.Source.{first_source, next_source, packet_begun, sent_source, start_in}
-use Rattle.noc_sets.proofs.MemberLemmas.{zero_members}
+use Rattle.noc_sets.proofs.MemberLemmas.{zero_members, or-true}
 use Rattle.noc_sets.proofs.FlitLemmas.{begins_fits}
 use Rattle.noc_sets.specs.Ended.{ended_frozen, ended_taken}
 use Rattle.noc_sets.proofs.SourceLemmas.{HasInjectedFrom, first-injected, next-injected, nothing-injected}
@@ -198,10 +198,6 @@ module _ {count : ℕ} (net : Setup) (setup : IsGoodSetup net) (n r : ℕ) (l : 
   in-went k e =
       either_members (lane_injected layout.places b.column) (lowest (lane_begins layout.local n b.source.due b.column)) k
       ∙ ap (λ y. has_bit (lane_injected layout.places b.column) k || y) e ∙ or-true (has_bit (lane_injected layout.places b.column) k)
-    where
-      or-true : (y : Bool) → (y || true) ≡ true
-      or-true true = refl
-      or-true false = refl
 
   nothing-begins : injection_in n w ≡ None → nat_eq (lane_begins layout.local n b.source.due b.column) 0 ≡ true
   nothing-begins e = at (cases_eq (lane_begins layout.local n b.source.due b.column) 0)

@@ -6,10 +6,7 @@ use Rattle.noc_view.specs.View.{asked_for}
 use Rattle.noc_view.proofs.FindLemmas.{find-below, find-none}
 use Rattle.noc_theory_bits.proofs.Common.{eq-eqb, ne_eqb, cases_eq, cases_lt, false≢true, div-mul-add, mod-mul-add, mul-add-lt, below, is_some_of, ports, has_bit, Routes, is_empty, has_credit, InputState, Idle, Waiting, Active, is_won_from, is_moved, ready_port, Moved, LostSwitch, View, size_of, view_buffer, view_input, view_output, view_claim, claim_in, view_round, decisions_of, decided_verdict, beat_out, AreMoved}
 use Rattle.noc_theory_bits.proofs.routers.CommittedLemmas.{verdict-planned}
-
-and-none : (b : Bool) → (b && false) ≡ false
-and-none true = refl
-and-none false = refl
+use Rattle.noc_sets.proofs.MemberLemmas.{and-false}
 
 module _ (relation : Routes) (v : View) (moved : ℕ) (some_vc : 0 < v.site.vcs) (are : AreMoved v moved)
     (ready : (k : ℕ) → k < size_of v.site → is_some_of (slice_index_or (view_round v).picks (k / v.site.vcs) None) (k % v.site.vcs) ≡ true → is_some (ready_port v.site.vcs (view_claim v k) (not (is_empty (view_buffer v k)))) ≡ true) where
@@ -24,14 +21,14 @@ module _ (relation : Routes) (v : View) (moved : ℕ) (some_vc : 0 < v.site.vcs)
           → is_moved (verdict_of v.site.vcs (view_round v) k (view_claim v k) (not (is_empty (view_buffer v k)))) ≡ (is_pick k && is_won_from v (view_round v) k (view_input v k).phase)
       by Idle e =
           ap (λ (p : InputState). is_moved (verdict_of v.site.vcs (view_round v) k (claim_in v p) (not (is_empty (view_buffer v k))))) e ∙ at (not (is_empty (view_buffer v k)))
-          ∙ sym (ap (λ (p : InputState). is_pick k && is_won_from v (view_round v) k p) e ∙ and-none (is_pick k))
+          ∙ sym (ap (λ (p : InputState). is_pick k && is_won_from v (view_round v) k p) e ∙ and-false (is_pick k))
         where
           at : (b : Bool) → is_moved (verdict_of v.site.vcs (view_round v) k (claim_in v Idle) b) ≡ false
           at true = refl
           at false = refl
       by (Waiting set) e =
           ap (λ (p : InputState). is_moved (verdict_of v.site.vcs (view_round v) k (claim_in v p) (not (is_empty (view_buffer v k))))) e ∙ at (asked_for v set) (not (is_empty (view_buffer v k)))
-          ∙ sym (ap (λ (p : InputState). is_pick k && is_won_from v (view_round v) k p) e ∙ and-none (is_pick k))
+          ∙ sym (ap (λ (p : InputState). is_pick k && is_won_from v (view_round v) k p) e ∙ and-false (is_pick k))
         where
           given : (o : ℕ) (b : Bool) → is_some_of (slice_index_or (view_round v).grants o None) k ≡ b → is_moved (verdict_of v.site.vcs (view_round v) k (Waits (Some o)) true) ≡ false
           given o true z = rw z refl

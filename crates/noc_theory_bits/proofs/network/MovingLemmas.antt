@@ -3,6 +3,7 @@ use Rattle.std.proofs.Common.{◌≡◌, ℕ, ◌/◌, ◌%◌, ◌^◌, ◌<◌
 use Rattle.std.specs.Prelude.{◌⊎◌, ◌&&◌, ◌||◌, nat_eq, nat_lt, slice_index_or, if◌then◌else◌}
 use Rattle.noc_sets.proofs.UnionLemmas.{some-none, some-one}
 use Rattle.noc_theory_bits.proofs.Common.{cases_lt, eq-eqb, le-ltb, lt-ltb, ne_eqb, is_some_of, has_bit, has_bit-zero, is_won_from, View, size_of, view_input, view_round, Setup, some_below, union_from, power-members, AreMoved, union-members, frozen_of}
+use Rattle.noc_sets.proofs.MemberLemmas.{and-false, and-true}
 
 -- ---- a set by a test
 
@@ -19,14 +20,6 @@ set-members n test k =
     one : (q : ℕ) (b : Bool) → has_bit (if b then 2 ^ q else 0) k ≡ (b && nat_eq k q)
     one q true = power-members q k
     one q false = has_bit-zero k
-
-    and-true : (b : Bool) → (b && true) ≡ b
-    and-true true = refl
-    and-true false = refl
-
-    and-false : (b : Bool) → (b && false) ≡ false
-    and-false true = refl
-    and-false false = refl
 
     at : (k < n) ⊎ (n ≤ k) → some_below n (λ q. has_bit (if test q then 2 ^ q else 0) k) ≡ (nat_lt k n && test k)
     at (inl l) =

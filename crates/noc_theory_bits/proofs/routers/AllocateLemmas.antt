@@ -11,7 +11,7 @@ use Rattle.noc_sets.specs.Turns.{in_turn}
 use Rattle.noc_sets.specs.Grants.{HasAllocated, KeepsInput, ShowsGrants, winner}
 use Rattle.noc_sets.specs.Passes.{lane_asks}
 use Rattle.noc_sets.proofs.AskLemmas.{asked-is}
-use Rattle.noc_sets.proofs.MemberLemmas.{eq-turned, or-false, same-word, above_64}
+use Rattle.noc_sets.proofs.MemberLemmas.{eq-turned, or-false, same-word, above_64, and-true}
 use Rattle.noc_sets.proofs.TurnLemmas.{first-among, first-is, first-members, mask-past}
 use Rattle.noc_theory_bits.proofs.Common.{cases_eq, cases_lt, eq-eqb, ne_eqb, eqb-true, false≢true, true≢false, and_parts, pow_below, get_or-map, is_some_of, ports, get_or-tabulate, get_or-map_indexed, has_bit, has_bit-zero, both_members, RoundRobin, arbiter_at, arbiter_after, pointer_after, pointers_of, MembersAreBelow, is_given, is_waiting, is_free, InputState, Idle, Waiting, Active, ask_of, arbiters_after, View, size_of, claim_in, view_claim, view_input, view_output, view_round, view_stands, less, least, Column, RouterMarks, IsColumn, ShowsPhase, sends_by, ShowsPointer, Allocation, asked_of, phase_granted, with_grant, or-zero, below_fits, least_is, less_members, power-members}
 use Rattle.noc_theory_bits.proofs.network.PointerLemmas.{AreTurns}
@@ -315,10 +315,6 @@ module _ {count : ℕ} (v : View) (a : Allocation) (shows : IsColumn count a.col
 
       idle : less a.column.idle 0 ≡ a.column.idle
       idle = same-word (less a.column.idle 0) a.column.idle (λ k. less_members a.column.idle 0 k ∙ ap (λ x. has_bit a.column.idle k && not x) (has_bit-zero k) ∙ and-true (has_bit a.column.idle k))
-        where
-          and-true : (x : Bool) → (x && true) ≡ x
-          and-true true = refl
-          and-true false = refl
 
       supplied : bit_or a.column.supplied a.granted ≡ a.column.supplied
       supplied = ap (bit_or a.column.supplied) no_grant ∙ or-zero a.column.supplied

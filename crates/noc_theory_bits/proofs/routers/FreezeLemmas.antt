@@ -9,7 +9,7 @@ use Rattle.noc_sets.specs.Passes.{frozen_column, lane_filled, lane_home, lane_la
 use Rattle.noc_sets.specs.Planes.{any_from, raised_by}
 use Rattle.noc_sets.specs.Source.{NEVER}
 use Rattle.noc_sets.specs.Taken.{credited_by}
-use Rattle.noc_sets.proofs.MemberLemmas.{xor_members, lowest_fits}
+use Rattle.noc_sets.proofs.MemberLemmas.{xor_members, lowest_fits, or-true}
 use Rattle.noc_sets.proofs.FlitLemmas.{empty-length, phase-kept, with-one-empty, with-one-length, begins_fits}
 use Rattle.noc_sets.proofs.FrozenLemmas.{first-number, flit_from-beyond, frozen-words, marks-kept, owned-kept, sending-kept, turns-kept}
 use Rattle.noc_sets.proofs.PlaneLemmas.{any-fits, filled-members, raised-length, raised-number}
@@ -191,16 +191,12 @@ module _ (relation : Routes) (count : ℕ) (c : Column) (m : RouterMarks) (v : V
       first-number (lowest begins) (raised_by c.len (lane_landed bits flits c)) i long
       (λ e. let none : plane_number c.len i ≡ 0 = sent.vacant i e in
       let one : one_if (has_bit (lowest begins) i) ≡ 1 = ap one_if e in
-      let goes : has_bit went i ≡ true = either-is (has_bit (lane_injected bits c) i) (has_bit (lowest begins) i) (has_bit went i) parts ∙ ap (λ b. has_bit (lane_injected bits c) i || b) e ∙ or-yes (has_bit (lane_injected bits c) i) in
+      let goes : has_bit went i ≡ true = either-is (has_bit (lane_injected bits c) i) (has_bit (lowest begins) i) (has_bit went i) parts ∙ ap (λ b. has_bit (lane_injected bits c) i || b) e ∙ or-true (has_bit (lane_injected bits c) i) in
       let comes : one_if (has_bit flits i) ≡ 0 = ap one_if (comes-alone i goes) in
       let is_one : one_if (has_bit went i) ≡ 1 = ap one_if goes in
       omega (arith, none, one, comes, is_one, parts, landed, raised))
       ∙ omega (arith, raised, landed, parts)
     where
-      or-yes : (b : Bool) → (b || true) ≡ true
-      or-yes true = refl
-      or-yes false = refl
-
       long : 0 < length (raised_by c.len (lane_landed bits flits c))
       long = let e = raised-length c.len (lane_landed bits flits c) ∙ column.words.len_bits in omega (arith, e, some-bit count room)
         where

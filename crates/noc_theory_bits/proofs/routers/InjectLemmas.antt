@@ -8,7 +8,7 @@ use Rattle.noc_sets.specs.Passes.{injecting_after, lane_free}
 use Rattle.noc_sets.specs.Planes.{any_from}
 use Rattle.noc_sets.specs.Source.{first_source, next_source, sent_source, start_in, NEVER, END}
 use Rattle.noc_sets.proofs.AskLemmas.{vacant-is}
-use Rattle.noc_sets.proofs.MemberLemmas.{lowest-one}
+use Rattle.noc_sets.proofs.MemberLemmas.{lowest-one, and-false, and-true}
 use Rattle.noc_sets.proofs.FlitLemmas.{free-members}
 use Rattle.noc_sets.proofs.SourceLemmas.{next-shows, tail-is}
 use Rattle.noc_sets.proofs.PlaneLemmas.{wrong-members}
@@ -226,16 +226,8 @@ module _ (count : ℕ) (c : Column) (starts : List Start) (s : Source) (u : View
               ∙ ap (λ y. y && has_bit (wrong_from 0 c.len bits) k) (ap (λ y. has_bit y k) sends.1 ∙ power-members (local_channel u.site vc) k)
 
           if-member : (y : Bool) (k : ℕ) → has_bit (if y then 2 ^ local_channel u.site vc else 0) k ≡ (nat_eq k (local_channel u.site vc) && y)
-          if-member true k = power-members (local_channel u.site vc) k ∙ sym (and-yes (nat_eq k (local_channel u.site vc)))
-            where
-              and-yes : (y : Bool) → (y && true) ≡ y
-              and-yes true = refl
-              and-yes false = refl
-          if-member false k = has_bit-zero k ∙ sym (and-no (nat_eq k (local_channel u.site vc)))
-            where
-              and-no : (y : Bool) → (y && false) ≡ false
-              and-no true = refl
-              and-no false = refl
+          if-member true k = power-members (local_channel u.site vc) k ∙ sym (and-true (nat_eq k (local_channel u.site vc)))
+          if-member false k = has_bit-zero k ∙ sym (and-false (nat_eq k (local_channel u.site vc)))
 
           each : (k : ℕ) → (k ≡ local_channel u.site vc) ⊎ (k ≢ local_channel u.site vc) → has_bit (lane_injected bits c) k ≡ has_bit (if b then 2 ^ local_channel u.site vc else 0) k
           each k (inl same) =
@@ -263,11 +255,7 @@ module _ (count : ℕ) (c : Column) (starts : List Start) (s : Source) (u : View
       may-if =
           ap (λ d. if nat_le d n && nat_eq c.injecting 0 then lane_free local c else 0) due
           ∙ ap (λ k. if nat_le p.due n && nat_eq k 0 then lane_free local c else 0) idle
-          ∙ ap (λ y. if y then lane_free local c else 0) (and-yes (nat_le p.due n))
-        where
-          and-yes : (y : Bool) → (y && true) ≡ y
-          and-yes true = refl
-          and-yes false = refl
+          ∙ ap (λ y. if y then lane_free local c else 0) (and-true (nat_le p.due n))
 
       no-flit : lane_begins local n s.due c ≡ 0 → Sent u None
       no-flit e = words-as u None 0 0 0 (quiet idle) e refl (none-sent c starts s u u ((number, p) ∷ rest) None few due shows tt queue sending idle)

@@ -10,7 +10,7 @@ use Rattle.noc_packet.proofs.SetLemmas.{bit_at-true, bit_at-false}
 use Rattle.noc_sets.specs.Moves.{selected_by, dry_by, HasAdvanced}
 use Rattle.noc_sets.specs.Sets.{of_one}
 use Rattle.noc_sets.specs.Turns.{in_turn}
-use Rattle.noc_sets.proofs.MemberLemmas.{lowest_fits}
+use Rattle.noc_sets.proofs.MemberLemmas.{lowest_fits, and-false}
 use Rattle.noc_sets.proofs.SelectLemmas.{selected, wins-is, pick-of-member, in_turn-some}
 use Rattle.noc_sets.proofs.SettleLemmas.{is_tail_by}
 use Rattle.noc_sets.proofs.UnionLemmas.{some-none, some-one, some-same, some-and}
@@ -36,10 +36,6 @@ pub record IsTaken (v : View) (q set i : ℕ) : Type 0 where
   pub port : out / v.site.vcs ≡ q
   pub below : out < size_of v.site
   pub alone : (k : ℕ) → has_bit set k ≡ nat_eq k i
-
-and-none : (b : Bool) → (b && false) ≡ false
-and-none true = refl
-and-none false = refl
 
 eq-turned : (a b : ℕ) → nat_eq a b ≡ nat_eq b a
 eq-turned a b = at (cases_eq a b)
@@ -254,7 +250,7 @@ module _ (v : View) (picked : ℕ) (to turn : ℕ → ℕ) (are : AreMoving v pi
                     alone : (b : Bool) → (b && true) ≡ b
                     alone true = refl
                     alone false = refl
-                side false t = has_bit-zero o ∙ sym (ap (λ x. nat_eq p o && x) t ∙ and-none (nat_eq p o))
+                side false t = has_bit-zero o ∙ sym (ap (λ x. nat_eq p o && x) t ∙ and-false (nat_eq p o))
 
   module _ (taken : ℕ → ℕ) (shows : (i o : ℕ) → i < size_of v.site → (view_input v i).phase ≡ Active o → taken i ≡ 2 ^ o) where
     -- the output channels by which a flit leaves

@@ -3,8 +3,7 @@ use Rattle.std.specs.Prelude.{◌&&◌, nat_eq}
 use Rattle.std.proofs.Math.Pow.{pow-lt}
 use Rattle.noc_packet.specs.Set.{has_bit}
 use Rattle.noc_packet.proofs.SetLemmas.{has_bit-zero}
-use Rattle.noc_sets.proofs.MemberLemmas.{power-members}
-use Rattle.noc_columns.proofs.LoopLemmas.{and-false, and-true}
+use Rattle.noc_sets.proofs.MemberLemmas.{and-false, and-true, power-members}
 use Rattle.noc_columns.proofs.routes.alone_where.Goals as goal
 use mir.Val.{bool_byte}
 
