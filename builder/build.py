@@ -303,9 +303,9 @@ class Build:
 
     def begin_what_can(self) -> None:
         """Begins the crates whose libraries are made, those with the longest chain behind them first. One waits for no
-        crate with a shorter chain, which has a lower priority beside it. It has as many jobs, four at most, as those with
-        a longer one and what goes on beside the build leave of the processors, where each of the others gets one. By
-        more jobs than processors the same checks take half as much processor time again."""
+        crate with a shorter chain, which has a lower priority beside it. It has as many jobs, four at most, as those
+        with a longer one and what goes on beside the build leave of the processors, where each of the others gets one.
+        By more jobs than processors the same checks take half as much processor time again."""
         processors = len(os.sched_getaffinity(0))
         ready = [it for it in self.left if it not in self.running and not any(on in self.left for on in it.on)]
         ready.sort(key=self.chain.__getitem__, reverse=True)
